@@ -1,0 +1,17 @@
+pub mod Main
+pub mod Fewest
+pub mod Cases
+pub mod Drive
+pub mod Mid
+pub mod Duality
+pub mod DockBound
+pub mod SaveBound
+pub mod Process
+pub mod Invariant
+pub mod Pool
+pub mod Bound
+pub mod Outcome
+pub mod Deliver
+pub mod Lists
+pub mod Sums
+pub mod Bits

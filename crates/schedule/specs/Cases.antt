@@ -1,0 +1,92 @@
+-- The starred cases of document 01, "Cases", and an example for each rule of the dock that no theorem pins: one table, which
+-- proofs/Cases.antt proves by computing.
+-- Assumes nothing.
+use Prim.Native.Nat.{ℕ}
+use mathlib.Core.Bool.{Bool, true, false}
+use mathlib.Core.List.{List, [], _∷_}
+use Rattle.schedule.specs.Greedy.{Plan, saveAndKeep, greedyWriting, lazyPrefetching}
+use Rattle.schedule.specs.Dock.{Step, readFrame, dropFrame, endCycle, Dock, emptyDock, holding, run}
+use Rattle.schedule.specs.Drive.{Outcome, complete, unfinished, outcome, peak}
+
+infix 70 _gives_
+-- for a pool of m and the cards of a list: a plan, a run of the dock, the peak of a run
+pub data Question : Type 0 where
+  readPlan : ℕ → List ℕ → Question
+  savePlan : ℕ → List ℕ → Question
+  keepPlan : ℕ → List ℕ → Question
+  drive : ℕ → List ℕ → List Step → Question
+  peakOf : ℕ → List ℕ → List Step → Question
+
+pub data Answer : Type 0 where
+  -- the cycles and T
+  plan : List ℕ → ℕ → Answer
+  -- the outcome, the frames delivered, the frames held, and whether the steps are broken off
+  dock : Outcome → ℕ → ℕ → Bool → Answer
+  most : ℕ → Answer
+
+pub data Case : Type 0 where
+  _gives_ : Question → Answer → Case
+
+abbrev planOf : Plan → Answer
+planOf p = plan (p .cycles) (p .T)
+
+abbrev dockOf : List ℕ → Outcome → Dock → Answer
+dockOf cards o d = dock o (d .delivered) (holding cards d) (d .broken)
+
+abbrev pub answerTo : Question → Answer
+answerTo (readPlan m cards) = planOf (lazyPrefetching m cards)
+answerTo (savePlan m cards) = planOf (greedyWriting m cards)
+answerTo (keepPlan m cards) = planOf (saveAndKeep m cards)
+answerTo (drive m cards steps) = dockOf cards (outcome m cards steps emptyDock) (run m cards steps emptyDock)
+answerTo (peakOf m cards steps) = most (peak m cards steps emptyDock)
+
+abbrev pub computed : Case → Answer
+computed (question gives answer) = answerTo question
+
+abbrev pub expected : Case → Answer
+expected (question gives answer) = answer
+
+abbrev pub cases : List Case
+cases =
+    -- the starred plans
+    readPlan 2 (0 ∷ 0 ∷ 1 ∷ []) gives plan (1 ∷ 2 ∷ 2 ∷ []) 2
+    ∷ savePlan 2 (0 ∷ 0 ∷ 1 ∷ []) gives plan (1 ∷ 2 ∷ 2 ∷ []) 2
+    ∷ readPlan 1 (0 ∷ 0 ∷ 1 ∷ []) gives plan (1 ∷ 2 ∷ 3 ∷ []) 3
+    ∷ readPlan 2 (0 ∷ 0 ∷ 0 ∷ 1 ∷ []) gives plan (1 ∷ 2 ∷ 3 ∷ 3 ∷ []) 3
+    ∷ keepPlan 2 (0 ∷ 0 ∷ 0 ∷ 1 ∷ []) gives plan (1 ∷ 2 ∷ 0 ∷ 0 ∷ []) 2
+    ∷ readPlan 3 (0 ∷ 1 ∷ 2 ∷ 0 ∷ []) gives plan (1 ∷ 2 ∷ 2 ∷ 2 ∷ []) 2
+    ∷ readPlan 2 (0 ∷ 1 ∷ 2 ∷ 0 ∷ []) gives plan (1 ∷ 1 ∷ 2 ∷ 2 ∷ []) 2
+    ∷ savePlan 3 (0 ∷ 1 ∷ 2 ∷ 0 ∷ []) gives plan (1 ∷ 1 ∷ 1 ∷ 2 ∷ []) 2
+    ∷ readPlan 1 [] gives plan [] 0
+    ∷ savePlan 1 [] gives plan [] 0
+    ∷ keepPlan 1 [] gives plan [] 0
+    -- a list on which a well-known library takes 5 cycles
+    ∷ readPlan 3 (2 ∷ 1 ∷ 1 ∷ 0 ∷ 0 ∷ 0 ∷ 0 ∷ []) gives plan (1 ∷ 1 ∷ 2 ∷ 1 ∷ 2 ∷ 3 ∷ 4 ∷ []) 4
+    -- a drop after a read in the same cycle is against the rules, also of a frame not held, and after a read without effect
+    ∷ drive 2 (0 ∷ 0 ∷ 1 ∷ []) (readFrame 0 ∷ dropFrame 0 ∷ endCycle ∷ []) gives dock unfinished 0 1 true
+    ∷ drive 2 (0 ∷ 0 ∷ 1 ∷ []) (readFrame 0 ∷ dropFrame 2 ∷ endCycle ∷ []) gives dock unfinished 0 1 true
+    ∷ drive 2 (0 ∷ 0 ∷ 1 ∷ []) (readFrame 0 ∷ endCycle ∷ readFrame 0 ∷ dropFrame 2 ∷ []) gives dock unfinished 1 0 true
+    -- a drop at the start of a cycle frees the buffer; of a frame not held it changes nothing
+    ∷ drive 2 (0 ∷ 0 ∷ 1 ∷ []) (readFrame 2 ∷ endCycle ∷ dropFrame 2 ∷ dropFrame 2 ∷ endCycle ∷ []) gives dock unfinished 0 0 false
+    -- a card's second read in a cycle is against the rules, also of the same frame
+    ∷ drive 2 (0 ∷ 0 ∷ 1 ∷ []) (readFrame 0 ∷ readFrame 1 ∷ endCycle ∷ []) gives dock unfinished 0 1 true
+    ∷ drive 2 (0 ∷ 0 ∷ 1 ∷ []) (readFrame 0 ∷ readFrame 0 ∷ []) gives dock unfinished 0 1 true
+    -- an end that finds more than m held is against the rules, also where it would hand them over
+    ∷ drive 1 (0 ∷ 1 ∷ []) (readFrame 0 ∷ readFrame 1 ∷ endCycle ∷ []) gives dock unfinished 0 2 true
+    -- after a step against the rules nothing changes any more
+    ∷ drive 1 (0 ∷ 1 ∷ []) (readFrame 0 ∷ readFrame 0 ∷ endCycle ∷ readFrame 1 ∷ endCycle ∷ []) gives dock unfinished 0 1 true
+    -- a read of a frame already handed over, or held, uses the card's turn and changes nothing else
+    ∷ drive 1 (0 ∷ 0 ∷ []) (readFrame 0 ∷ endCycle ∷ readFrame 0 ∷ endCycle ∷ readFrame 1 ∷ endCycle ∷ []) gives dock (complete 3) 2 0 false
+    ∷ drive 1 (0 ∷ 0 ∷ []) (readFrame 0 ∷ endCycle ∷ readFrame 0 ∷ readFrame 1 ∷ []) gives dock unfinished 1 0 true
+    ∷ drive 2 (0 ∷ 1 ∷ []) (readFrame 1 ∷ endCycle ∷ readFrame 1 ∷ readFrame 0 ∷ endCycle ∷ []) gives dock (complete 2) 2 0 false
+    -- a position past the list is against the rules
+    ∷ drive 1 (0 ∷ []) (readFrame 1 ∷ readFrame 0 ∷ endCycle ∷ []) gives dock unfinished 0 0 true
+    -- steps after the last frame is handed over add no cycles, whatever they are
+    ∷ drive 1 (0 ∷ []) (readFrame 0 ∷ endCycle ∷ endCycle ∷ readFrame 0 ∷ readFrame 0 ∷ []) gives dock (complete 1) 1 0 true
+    -- with no frames a run is complete from the start
+    ∷ drive 1 [] (endCycle ∷ endCycle ∷ []) gives dock (complete 0) 0 0 false
+    -- the peak counts what is held right after the end of a cycle, and no end against the rules
+    ∷ peakOf 3 (0 ∷ 0 ∷ 1 ∷ []) (readFrame 0 ∷ readFrame 2 ∷ endCycle ∷ readFrame 1 ∷ endCycle ∷ []) gives most 1
+    ∷ peakOf 3 (0 ∷ 0 ∷ 1 ∷ []) (readFrame 0 ∷ endCycle ∷ readFrame 1 ∷ readFrame 2 ∷ endCycle ∷ []) gives most 0
+    ∷ peakOf 1 (0 ∷ 1 ∷ 2 ∷ []) (readFrame 1 ∷ readFrame 2 ∷ endCycle ∷ []) gives most 0
+    ∷ []

@@ -1,0 +1,29 @@
+-- Counting by position: sums over the numbers below n, how many of them pass a test, and the list of a function's values.
+-- Assumes nothing.
+use Prim.Native.Nat.{ℕ, zero, suc, _+_, max}
+use mathlib.Core.Bool.{Bool, true, false}
+use mathlib.Core.List.{List, [], _∷_, _++_}
+
+-- 1 where the test passes, else 0
+abbrev pub bit : Bool → ℕ
+bit true = 1
+bit false = 0
+
+-- f 0 + f 1 + .. + f (n - 1)
+abbrev pub sum : ℕ → (ℕ → ℕ) → ℕ
+sum zero f = 0
+sum (suc n) f = sum n f + f n
+
+-- how many of the numbers below n pass the test
+abbrev pub howMany : ℕ → (ℕ → Bool) → ℕ
+howMany n test = sum n (λ i. bit (test i))
+
+-- the list f 0, f 1, .., f (n - 1)
+abbrev pub tabulate : ℕ → (ℕ → ℕ) → List ℕ
+tabulate zero f = []
+tabulate (suc n) f = tabulate n f ++ (f n ∷ [])
+
+-- the largest number of a list, 0 for the empty one
+abbrev pub largest : List ℕ → ℕ
+largest [] = 0
+largest (x ∷ l) = max x (largest l)
