@@ -15,7 +15,7 @@ use borrow.Author.Tests.{eq-eqb, ne-eqb, eqb-true, leb-true, le-leb, lt-leb, ltb
 use Rattle.schedule.specs.Count.{bit, sum, howMany}
 use Rattle.schedule.specs.Schedule.{cardOf}
 use Rattle.schedule.specs.Dock.{Step, readFrame, dropFrame, endCycle, Dock, emptyDock, isIn, deliver, breakOff, holding, perform, against, step, run}
-use Rattle.schedule.proofs.Bits.{and-left, and-right, or-neither, bit-le-one, bit-and-le, bit-and-mono}
+use Rattle.schedule.proofs.Bits.{by-test, and-left, and-right, or-neither, bit-le-one, bit-and-le, bit-and-mono, bit-and-off}
 use Rattle.schedule.proofs.Sums.{over-cards, sum-mono, sum-add, sum-zero, sum-one, sum-cut, sum-reverse, equal-at-most-one, below-at-most}
 use Rattle.schedule.proofs.Lists.{reverse-getD}
 use Rattle.schedule.proofs.Deliver.{deliver-held}
@@ -31,11 +31,6 @@ missing-read : (a b e y x : Bool) → bit (a && (b && not x)) ≤ bit (a && (b &
 missing-read a b true y x = omega (arith, bit-le-one (a && (b && not x)))
 missing-read a b false y x = omega arith
 
--- a dock picked by a test, the second case with what the test says
-by-test : (P : Dock → Type 0) (b : Bool) (x y : Dock) → P x → (b ≡ false → P y) → P (cond b x y)
-by-test P true x y p q = p
-by-test P false x y p q = q refl
-
 -- a frame is delivered, held or missing
 somewhere : (i n : ℕ) (b : Bool) → 1 ≤ bit (ltb i n) + (bit b + bit (leb n i && not b))
 somewhere i n true = omega arith
@@ -44,10 +39,6 @@ somewhere i n false =
       | yes l ↦ rw (lt-ltb i n l) (omega arith)
       | no l ↦ (let g : n ≤ i = omega arith in rw (le-leb n i g) (omega arith))
     ]
-
-middle-off : (a b c : Bool) → b ≡ false → bit (a && (b && c)) ≡ 0
-middle-off true b c e = rw e
-middle-off false b c e = refl
 
 module _ (m : ℕ) (cards : List ℕ) (D : ℕ) where
   abbrev L : ℕ
@@ -79,8 +70,8 @@ module _ (m : ℕ) (cards : List ℕ) (D : ℕ) where
         sum-reverse L (λ i. bit (eqb (card i) c && isMissing d i)),
         sum-cut L n (λ i. bit (eqb (card (L - suc i)) c && isMissing d (L - suc i))) (λ i. bit (eqb (cardOf (reverse cards) i) c))
             (λ i l k. rw (reverse-getD cards i l) (bit-and-le (eqb (card (L - suc i)) c) (isMissing d (L - suc i))))
-            (λ i l k. middle-off (eqb (card (L - suc i)) c) (leb (d .delivered) (L - suc i)) (not (d .held (L - suc i)))
-            (lt-leb (d .delivered) (L - suc i) (omega arith))),
+            (λ i l k. bit-and-off (eqb (card (L - suc i)) c) (isMissing d (L - suc i))
+            (rw (lt-leb (d .delivered) (L - suc i) (omega arith)))),
       )
 
   -- where no card has read yet, what is missing is under the bound
@@ -174,15 +165,15 @@ module _ (m : ℕ) (cards : List ℕ) (D : ℕ) where
 
     before-step : (a : Step) (d : Dock) → Before d (step m cards a d)
     before-step (readFrame i) d =
-        by-test (Before d) (d .broken) d _ (before-same d)
-        (λ e. by-test (Before d) (against m cards (readFrame i) d) (breakOff d) (perform cards (readFrame i) d) (before-break d)
+        by-test (Before d) (d .broken) d _ (λ e. before-same d)
+        (λ e. by-test (Before d) (against m cards (readFrame i) d) (breakOff d) (perform cards (readFrame i) d) (λ f. before-break d)
         (λ f. before-read i d (or-neither (leb L i) (isIn (card i) (d .busy)) f)))
     before-step (dropFrame i) d =
-        by-test (Before d) (d .broken) d _ (before-same d)
-        (λ e. by-test (Before d) (against m cards (dropFrame i) d) (breakOff d) (perform cards (dropFrame i) d) (before-break d) (λ f. before-drop i d))
+        by-test (Before d) (d .broken) d _ (λ e. before-same d)
+        (λ e. by-test (Before d) (against m cards (dropFrame i) d) (breakOff d) (perform cards (dropFrame i) d) (λ f. before-break d) (λ f. before-drop i d))
     before-step endCycle d =
-        by-test (Before d) (d .broken) d _ (before-same d)
-        (λ e. by-test (Before d) (against m cards endCycle d) (breakOff d) (perform cards endCycle d) (before-break d)
+        by-test (Before d) (d .broken) d _ (λ e. before-same d)
+        (λ e. by-test (Before d) (against m cards endCycle d) (breakOff d) (perform cards endCycle d) (λ f. before-break d)
         (λ f. before-end d (ltb-false m (holding cards d) f)))
 
     before-run : (steps : List Step) (d : Dock) → L ≤ run m cards steps d .delivered

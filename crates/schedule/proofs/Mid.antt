@@ -4,7 +4,7 @@
 use Prim.Native.Nat.{ℕ, suc, _+_, _-_, _≤_, _<_, zero-le}
 use mathlib.Core.Path.{_≡_, refl, sym, ap, _∙_}
 use mathlib.Core.Logic.{_≢_}
-use mathlib.Core.Bool.{Bool, true, false, _&&_, _||_, false≢true}
+use mathlib.Core.Bool.{true, false, _&&_, _||_, false≢true}
 use mathlib.Core.List.{List}
 use native.Mathlib.Omega.{arith}
 use native.Mathlib.Decide.{decLe, decLt, ℕ-discrete}
@@ -14,13 +14,9 @@ use borrow.Author.Tests.{eq-eqb, ne-eqb, leb-true, le-leb, lt-leb, lt-ltb, le-lt
 use Rattle.schedule.specs.Count.{bit}
 use Rattle.schedule.specs.Schedule.{cardOf, cycleOf, CorrectRead}
 use Rattle.schedule.specs.Dock.{readFrame, endCycle, Dock, emptyDock, isIn, deliver, holding, perform, step}
-use Rattle.schedule.proofs.Bits.{by-cases, and-left, and-right, bit-le-one}
+use Rattle.schedule.proofs.Bits.{by-cases, and-left, and-right, or-right, bit-le-one}
 use Rattle.schedule.proofs.Sums.{sum-mono, sum-add, sum-zero, equal-at-most-one}
 use Rattle.schedule.proofs.Deliver.{deliver-from, deliver-within, deliver-stops, deliver-held}
-
-or-true : (a b : Bool) → b ≡ true → (a || b) ≡ true
-or-true true b e = refl
-or-true false b e = e
 
 module _ (m : ℕ) (cards cycles : List ℕ) where
   abbrev L : ℕ
@@ -129,7 +125,7 @@ module _ (m : ℕ) (cards cycles : List ℕ) where
           held-old = λ i g h a. still-held k d i (v .held-old i g h a);
           held-new = λ i g h a b.
               elim (ℕ-discrete i k) [
-                | yes y ↦ (let f : d .delivered ≤ k = omega arith in rw (eq-eqb i k y) (or-true (d .held k) (leb (d .delivered) k) (le-leb (d .delivered) k f)))
+                | yes y ↦ (let f : d .delivered ≤ k = omega arith in rw (eq-eqb i k y) (or-right (d .held k) (leb (d .delivered) k) (le-leb (d .delivered) k f)))
                 | no y ↦ still-held k d i (v .held-new i g h a (omega arith))
               ];
           free = λ i g f a. rw (ne-eqb (card i) (card k) (λ e. ok .card-rule k i f g (sym e) (omega arith)), v .free i g (omega arith) a);

@@ -3,7 +3,7 @@
 use Prim.Native.Nat.{ℕ, zero, suc, _+_, _≤_, _<_, zero-le}
 use mathlib.Core.Path.{_≡_, refl, sym, ap, _∙_}
 use mathlib.Core.Logic.{_≢_}
-use mathlib.Core.Bool.{Bool, true, false, not, _&&_, _||_, cond}
+use mathlib.Core.Bool.{not, _&&_, _||_, cond}
 use mathlib.Core.List.{List, [], _∷_}
 use native.Mathlib.Omega.{arith}
 use lib.Dec.{eqb, leb, ltb}
@@ -13,17 +13,12 @@ use borrow.Author.Tests.{ne-eqb, eqb-true, eqb-false, ltb-true, ltb-false}
 use Rattle.schedule.specs.Count.{bit, sum, howMany}
 use Rattle.schedule.specs.Schedule.{cardOf, cycleOf, CorrectSave}
 use Rattle.schedule.specs.Greedy.{Plan, inPool, empty, enter, isFirst, oneCycle, save, saveFirst, flush, saveAndKeep, greedyWriting}
-use Rattle.schedule.proofs.Bits.{by-cases, bit-or-le}
+use Rattle.schedule.proofs.Bits.{by-cases, by-test, bit-or-le}
 use Rattle.schedule.proofs.Sums.{sum-cong, sum-mono, sum-term-le}
 use Rattle.schedule.proofs.Lists.{length-tabulate, getD-tabulate}
 use Rattle.schedule.proofs.Bound.{admitted, bound, bound-zero}
 use Rattle.schedule.proofs.Pool.{wait, Cycled, pool-written, pool-next}
 use Rattle.schedule.proofs.Invariant.{Inv, inv-cycle, inv-enter, written-total}
-
--- a plan picked by a test, each case with what the test says
-pub by-test : (P : Plan → Type 0) (b : Bool) (x y : Plan) → (b ≡ true → P x) → (b ≡ false → P y) → P (cond b x y)
-by-test P true x y p q = p refl
-by-test P false x y p q = q refl
 
 module _ (m : ℕ) (cards : List ℕ) (D : ℕ) (low : (i : ℕ) → i < length cards → cardOf cards i < D) where
   abbrev L : ℕ
