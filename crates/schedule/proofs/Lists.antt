@@ -1,12 +1,14 @@
--- Laws of `tabulate`, `largest`, and of a list reversed.
+-- Laws of `tabulate`, of filling a list with it, of `largest`, and of a list reversed.
 -- Assumes nothing.
-use Prim.Native.Nat.{ℕ, zero, suc, _-_, _≤_, _<_, zero-le}
-use mathlib.Core.Path.{_≡_, refl, _∙_}
-use mathlib.Core.List.{List, [], _∷_, reverse, reverse-cons, map}
+use Prim.Native.Nat.{ℕ, zero, suc, _+_, _-_, _≤_, _<_, zero-le}
+use mathlib.Core.Path.{_≡_, refl, sym, _∙_}
+use mathlib.Core.List.{List, [], _∷_, _++_, append-assoc, reverse, reverse-cons, map}
 use native.Mathlib.Omega.{arith}
-use native.Mathlib.Decide.{decLt}
-use lib.ListN.{length, getD, length-append, length-reverse, List·getD-append}
-use lib.Seq.{getD-at}
+use native.Mathlib.Numerals.{add-one}
+use native.Mathlib.Nat.{sub-zero, zero-sub, suc-sub-suc}
+use native.Mathlib.Decide.{decLt, ℕ-discrete}
+use lib.ListN.{length, getD, take, drop, set, replicate, length-drop, length-set, length-append, length-reverse, List·getD-append}
+use lib.Seq.{take-all, getD-at, drop-cons, set-at, ext-getD, getD-set-same, getD-set-other}
 use Rattle.schedule.specs.Count.{tabulate, largest}
 
 pub length-tabulate : (n : ℕ) (f : ℕ → ℕ) → length (tabulate n f) ≡ n
@@ -22,6 +24,40 @@ getD-tabulate (suc n) f i d h =
           (let e : i ≡ n = omega arith in
           rw e (getD-at (tabulate n f) (f n) [] d n (length-tabulate n f)))
     ]
+
+-- two lists of values are equal where the functions are, and where one place is set to what the second function gives
+pub tabulate-cong : (n : ℕ) (f g : ℕ → ℕ) → ((i : ℕ) → i < n → f i ≡ g i) → tabulate n f ≡ tabulate n g
+tabulate-cong zero f g h = refl
+tabulate-cong (suc n) f g h = rw (tabulate-cong n f g (λ i l. h i (omega arith)), h n (omega arith))
+
+pub set-tabulate :
+    (n : ℕ) (f g : ℕ → ℕ) (k : ℕ) → k < n → ((i : ℕ) → i < n → (i ≡ k → ⊥) → f i ≡ g i) → set (tabulate n f) k (g k) ≡ tabulate n g
+set-tabulate n f g k l h =
+    ext-getD 0 (set (tabulate n f) k (g k)) (tabulate n g)
+    (length-set (tabulate n f) k (g k) ∙ length-tabulate n f ∙ sym (length-tabulate n g))
+    (λ i b.
+    let m : i < n = rw (length-set, length-tabulate n f) at b in
+    let w : k < length (tabulate n f) = rw (length-tabulate n f) l in
+    elim (ℕ-discrete i k) [
+      | yes e ↦ rw e (getD-set-same (tabulate n f) k (g k) 0 w ∙ sym (getD-tabulate n g k 0 l))
+      | no e ↦ getD-set-other (tabulate n f) k i (g k) 0 e ∙ getD-tabulate n f i 0 m ∙ h i m e ∙ sym (getD-tabulate n g i 0 m)
+    ])
+
+-- a list whose front is being filled: one more place gets its value
+pub fill :
+    (f : ℕ → ℕ) (i : ℕ) (l : List ℕ) → i < length l → set (tabulate i f ++ drop i l) i (f i) ≡ tabulate (i + 1) f ++ drop (i + 1) l
+fill f i l h =
+    rw (add-one, drop-cons l i 0, set-at (tabulate i f) (getD l i 0) (drop (suc i) l) (f i) i (length-tabulate i f))
+    (sym (append-assoc (tabulate i f) (f i ∷ []) (drop (suc i) l)))
+
+-- the part of a list from place k on, as a borrowed part `&s[k..]` is written
+pub from-place : (k : ℕ) (l : List ℕ) → take (length l - k) (drop k l) ≡ drop k l
+from-place k l = take-all (length l - k) (drop k l) (simp length-drop (omega arith))
+
+pub drop-replicate : (n k x : ℕ) → drop k (replicate n x) ≡ replicate (n - k) x
+drop-replicate n zero x = rw sub-zero
+drop-replicate zero (suc k) x = rw zero-sub
+drop-replicate (suc n) (suc k) x = rw suc-sub-suc (drop-replicate n k x)
 
 pub le-largest : (l : List ℕ) (i : ℕ) → getD l i 0 ≤ largest l
 le-largest [] i = zero-le

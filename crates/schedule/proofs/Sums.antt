@@ -89,6 +89,10 @@ sum-reverse (suc n) f =
       sum-cong n (λ i. f (suc n - suc (suc i))) (λ i. f (n - suc i)) (λ i l. ap f (omega arith)),
     )
 
+pub howMany-le : (n : ℕ) (t : ℕ → Bool) → howMany n t ≤ n
+howMany-le zero t = zero-le
+howMany-le (suc n) t = omega (arith, howMany-le n t, bit-le-one (t n))
+
 -- at most one of the tests passes
 pub at-most-one : (n : ℕ) (t : ℕ → Bool) → ((i j : ℕ) → i < j → j < n → t i ≡ true → t j ≡ true → ⊥) → howMany n t ≤ 1
 at-most-one zero t h = zero-le
