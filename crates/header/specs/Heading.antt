@@ -1,0 +1,39 @@
+-- The header of a ticket (document 01, "The ticket, edition 1"): what stands in it, and refusals 1 to 6.
+-- Assumes nothing.
+use Prim.Native.Nat.{ℕ, _+_}
+use mathlib.Core.Bool.{_&&_, cond}
+use mathlib.Core.List.{List}
+use lib.Dec.{eqb, leb}
+use Rattle.text.specs.Text.{number, isLine}
+use Rattle.header.specs.Limits.{edition1, saveAndKeep, maxCards, maxPool, maxFrames}
+use Rattle.header.specs.declared.Header.{Header}
+use Rattle.header.specs.declared.Answer.{Answer}
+use Rattle.header.specs.declared.Answer.the-variants.{Accepted, Refused}
+
+-- "The header has 14 digits", and an end byte.
+abbrev pub headerDigits : ℕ
+headerDigits = 14
+
+abbrev pub headerBytes : ℕ
+headerBytes = headerDigits + 1
+
+-- "edition (2 digits, 01), mode (2), cards (2), pool (4), frames (4)"
+unfoldable pub headerOf : List ℕ → Header
+headerOf t = record { edition = number t 0 2; mode = number t 2 2; cards = number t 4 2; pool = number t 6 4; frames = number t 10 4 }
+
+-- Refusals 2 to 6.
+unfoldable pub judge : Header → Answer
+judge h =
+    cond (eqb (h .edition) edition1)
+    (cond (leb (h .mode) saveAndKeep)
+    (cond (leb 1 (h .cards) && leb (h .cards) maxCards)
+    (cond (leb 1 (h .pool) && leb (h .pool) maxPool)
+    (cond (leb (h .frames) maxFrames) (Accepted h) (Refused 6))
+    (Refused 5))
+    (Refused 4))
+    (Refused 3))
+    (Refused 2)
+
+-- Refusals 1 to 6.
+unfoldable pub heading : List ℕ → Answer
+heading t = cond (isLine t 0 headerDigits) (judge (headerOf t)) (Refused 1)

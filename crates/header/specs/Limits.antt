@@ -1,0 +1,37 @@
+-- The limits of a ticket (document 01, "The ticket, edition 1"), each in this one place. The code's constants are in src/limits.rt.
+-- Assumes nothing.
+use Prim.Native.Nat.{ℕ, _≤_, _<_}
+use mathlib.Core.Logic.{_⊎_}
+
+-- the edition that is read
+abbrev pub edition1 : ℕ
+edition1 = 1
+
+-- "Modes: 00 read; 01 save; 02 save and keep."
+abbrev pub read : ℕ
+read = 0
+
+abbrev pub save : ℕ
+save = 1
+
+abbrev pub saveAndKeep : ℕ
+saveAndKeep = 2
+
+-- "Cards 1 to 32": a dock has 32 card slots.
+abbrev pub maxCards : ℕ
+maxCards = 32
+
+-- "pool m 1 to 1,024": the most buffers of a dock.
+abbrev pub maxPool : ℕ
+maxPool = 1024
+
+-- "frames L 0 to 4,096": a position and a cycle then fit in 4 digits, and a ticket in 65,536 bytes.
+abbrev pub maxFrames : ℕ
+maxFrames = 4096
+
+-- "1 to n", and "not 1 to n"
+abbrev pub Within : ℕ → ℕ → Type 0
+Within n x = (1 ≤ x) × (x ≤ n)
+
+abbrev pub Outside : ℕ → ℕ → Type 0
+Outside n x = (x < 1) ⊎ (n < x)

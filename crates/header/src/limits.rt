@@ -1,0 +1,15 @@
+// The limits of a ticket. The definitions that the contracts use are in specs/Limits.antt, with the reason of each.
+
+pub const EDITION: u8 = 1;
+
+pub const READ: u8 = 0;
+
+pub const SAVE: u8 = 1;
+
+pub const SAVE_AND_KEEP: u8 = 2;
+
+pub const MAX_CARDS: u8 = 32;
+
+pub const MAX_POOL: u16 = 1024;
+
+pub const MAX_FRAMES: u16 = 4096;

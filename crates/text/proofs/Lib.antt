@@ -1,0 +1,3 @@
+pub mod Hex
+pub mod Lines
+pub mod Digits

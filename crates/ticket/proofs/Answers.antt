@@ -1,0 +1,141 @@
+-- What the public calls answer, from what the parts of the reader found.
+-- Assumes nothing.
+use Prim.Native.Nat.{ℕ, _+_, _*_, _-_, _≤_, _<_}
+use mathlib.Core.Path.{_≡_, refl, sym, ap, _∙_}
+use mathlib.Core.List.{List, [], _++_}
+use native.Mathlib.Omega.{arith}
+use lib.ListN.{length, take, drop, replicate, length-append, List·getD-append}
+use borrow.Author.Tests.{ne-eqb, lt-ltb, le-ltb, ltb-true}
+use lib.Dec.{ltb}
+use Rattle.schedule.specs.Count.{tabulate}
+use Rattle.schedule.specs.Schedule.{cardOf}
+use Rattle.schedule.proofs.Bits.{by-cases}
+use Rattle.schedule.proofs.Lists.{from-place, drop-replicate, length-tabulate}
+use Rattle.header.specs.Heading.{headerBytes, heading}
+use Rattle.header.specs.Limits.{maxCards, maxFrames}
+use Rattle.ticket.specs.Grounds.{Fits}
+use Rattle.ticket.specs.Ticket.{Parsed, accepted, refused, lineBytes, lineDigits, cardAt, partFault, parse, ticketOf, lineRefusalOf, lineOf, countsOf, zeros}
+use Rattle.ticket.proofs.Accepted.{as-many, fits, line-inside}
+use Rattle.ticket.proofs.Counting.{countsUpTo, counts-front}
+use Rattle.ticket.proofs.Reader.{header-passes, header-read, refusal-number}
+use Rattle.header.specs.declared.Header.{Header}
+use Rattle.ticket.specs.declared.Ticket.{Ticket}
+use Rattle.header.specs.declared.Answer.the-variants.{Accepted, Refused}
+
+module _ (t : List ℕ) where
+  module _ (h : Header) (e : heading t ≡ Accepted h) where
+    pub long : headerBytes ≤ length t
+    long = omega (arith, header-passes t h e .line .inside)
+
+    pub few-frames : h .frames ≤ maxFrames
+    few-frames = rw (header-read t h e) (header-passes t h e .frames)
+
+    pub part-refused :
+        (k : ℕ) → k ≡ partFault (take (length t - headerBytes) (drop headerBytes t)) (h .cards) (h .frames) → (k ≡ 0 → ⊥) → parse t ≡ refused k
+    unfolding parse
+    part-refused k q n = let q : k ≡ partFault (drop headerBytes t) (h .cards) (h .frames) = rw from-place at q in rw (e, ← q, ne-eqb _ _ n)
+
+    pub read :
+        (card : List ℕ) → 0 ≡ partFault (take (length t - headerBytes) (drop headerBytes t)) (h .cards) (h .frames)
+        → card ≡ tabulate (h .frames) (cardAt (take (length t - headerBytes) (drop headerBytes t))) ++ drop (h .frames) (replicate maxFrames 0)
+        → record { answer = Accepted h; card = card } ≡ ticketOf (parse t)
+    unfolding parse zeros
+    read card q c =
+        let q : partFault (drop headerBytes t) (h .cards) (h .frames) ≡ 0 = sym (rw from-place at q) in
+        let c : card ≡ tabulate (h .frames) (cardAt (drop headerBytes t)) ++ replicate (maxFrames - h .frames) 0 = rw (from-place, drop-replicate) at c in
+        rw (e, q, length-tabulate, ← c)
+
+-- from the answer of `parse` to what it parsed
+answer-refused : (p : Parsed) (k : ℕ) → ticketOf p .answer ≡ Refused k → p ≡ refused k
+answer-refused (accepted h cards) k e = let z : _≡_ {A = ℕ} 0 1 = cc in absurd (omega arith)
+answer-refused (refused j) k e = let q : j ≡ k = cc in ap refused q
+
+answer-accepted : (p : Parsed) (h : Header) → ticketOf p .answer ≡ Accepted h → (cards : List ℕ) × (p ≡ accepted h cards)
+answer-accepted (accepted g cards) h e = let q : g ≡ h = cc in (cards, ap (λ (x : Header). accepted x cards) q)
+answer-accepted (refused j) h e = let z : _≡_ {A = ℕ} 0 1 = cc in absurd (omega arith)
+
+module _ (t : List ℕ) (x : Ticket) (e : x ≡ ticketOf (parse t)) where
+  pub was-refused : (k : ℕ) → x .answer ≡ Refused k → parse t ≡ refused k
+  was-refused k q = answer-refused (parse t) k (ap (λ (y : Ticket). y .answer) (sym e) ∙ q)
+
+  pub was-accepted : (h : Header) → x .answer ≡ Accepted h → (cards : List ℕ) × (parse t ≡ accepted h cards)
+  was-accepted h q = answer-accepted (parse t) h (ap (λ (y : Ticket). y .answer) (sym e) ∙ q)
+
+  -- the number beside a line
+  pub number-refused : (k p : ℕ) → x .answer ≡ Refused k → k ≡ lineRefusalOf (parse t) p
+  number-refused k p q = rw (was-refused k q)
+
+  pub below : (h : Header) (p : ℕ) → x .answer ≡ Accepted h → p < h .frames → 0 ≡ lineRefusalOf (parse t) p
+  below h p q l = let r = was-accepted h q in rw (r .1, lt-ltb p (length (r .0)) (rw (as-many t h (r .0) (r .1)) l))
+
+  pub not-below : (h : Header) (p : ℕ) → x .answer ≡ Accepted h → h .frames ≤ p → 16 ≡ lineRefusalOf (parse t) p
+  not-below h p q l = let r = was-accepted h q in rw (r .1, le-ltb p (length (r .0)) (rw (as-many t h (r .0) (r .1)) l))
+
+-- a frame's line
+module _ (t : List ℕ) (p : ℕ) where
+  pub no-line : {k : ℕ} → k ≡ lineRefusalOf (parse t) p → (k ≡ 0 → ⊥) → [] ≡ lineOf t p
+  unfolding lineOf
+  no-line e n = rw (← e, ne-eqb _ _ n)
+
+  module _ (e : 0 ≡ lineRefusalOf (parse t) p) where
+    inside : (a : Parsed) → parse t ≡ a → 0 ≡ lineRefusalOf a p → headerBytes + lineBytes * p + lineBytes ≤ length t
+    inside (accepted h cards) q z =
+        line-inside t h cards q p (by-cases (ltb p (length cards)) (λ l. ltb-true _ _ l) (λ l. absurd (omega (arith, rw l at z))))
+    inside (refused k) q z = absurd (omega (arith, refusal-number t k q .0))
+
+    pub line-fits : headerBytes + lineBytes * p + lineBytes ≤ length t
+    line-fits = inside (parse t) refl e
+
+    pub the-line :
+        take (headerBytes + lineBytes * p + lineDigits - (headerBytes + lineBytes * p)) (drop (headerBytes + lineBytes * p) t) ≡ lineOf t p
+    unfolding lineOf
+    the-line =
+        let n : headerBytes + lineBytes * p + lineDigits - (headerBytes + lineBytes * p) ≡ lineDigits = omega arith in
+        rw (n, ← e)
+
+-- the array of an accepted ticket: its cards stand at the front
+module _ (h : Header) (cards rest card : List ℕ) (f : Fits h cards) (a : card ≡ cards ++ rest) where
+  pub front-card : (i : ℕ) → i < h .frames → cardOf card i ≡ cardOf cards i
+  front-card i l = rw a (List·getD-append cards rest 0 i (rw (f .frames) l))
+
+  pub tally-asks : (h .frames ≤ length card) × (h .frames ≤ maxFrames) × ((i : ℕ) → i < h .frames → cardOf card i < maxCards)
+  tally-asks = (
+    rw a (omega (arith, length-append cards rest, f .frames)),
+    f .few,
+    λ i l. rw (front-card i l) (omega (arith, f .each-card i (rw (f .frames) l), f .card-range .1)),
+  )
+
+  pub tally-gives : countsUpTo card (h .frames) ≡ countsUpTo cards (length cards)
+  tally-gives = rw (a, ← f .frames) (counts-front cards rest)
+
+-- what `parse` answered, taken apart
+module _ (t : List ℕ) (x : Ticket) (e : x ≡ ticketOf (parse t)) where
+  pub counts-refused : (k : ℕ) → x .answer ≡ Refused k → replicate maxCards 0 ≡ countsOf (parse t)
+  unfolding zeros
+  counts-refused k q = rw (was-refused t x e k q)
+
+  -- what an accepted answer shows: the cards, that they fit, and where they stand
+  pub record Shown (h : Header) : Type 0 where
+    pub cards : List ℕ
+    pub parsed : parse t ≡ accepted h cards
+    pub fitting : Fits h cards
+    pub array : x .card ≡ cards ++ zeros (maxFrames - length cards)
+
+  pub shown : (h : Header) → x .answer ≡ Accepted h → Shown h
+  shown h q =
+      let r = was-accepted t x e h q in
+      record {
+        cards = r .0;
+        parsed = r .1;
+        fitting = fits t h (r .0) (r .1);
+        array = ap (λ (y : Ticket). y .card) e ∙ rw (r .1);
+      }
+
+  module _ (h : Header) (q : x .answer ≡ Accepted h) where
+    pub counts-asked : (h .frames ≤ length (x .card)) × (h .frames ≤ maxFrames) × ((i : ℕ) → i < h .frames → cardOf (x .card) i < maxCards)
+    counts-asked = let s = shown h q in tally-asks h (s .cards) (zeros _) (x .card) (s .fitting) (s .array)
+
+    pub counts-given : countsUpTo (x .card) (h .frames) ≡ countsOf (parse t)
+    counts-given =
+        let s = shown h q in
+        tally-gives h (s .cards) (zeros _) (x .card) (s .fitting) (s .array) ∙ sym (ap countsOf (s .parsed))

@@ -1,0 +1,58 @@
+-- The public theorems about tickets: the answer to every text (demand 1), and what an accepted ticket is.
+-- Texts are lists of bytes, of any length and content. The definitions are in specs/: Ticket, Grounds and Print.
+-- Assumes nothing.
+use Prim.Native.Nat.{ℕ, _+_, _*_, _<_}
+use mathlib.Core.Path.{_≡_, refl, sym, _∙_}
+use mathlib.Core.List.{List}
+use mathlib.Core.Logic.{_⊎_, inl, inr}
+use lib.ListN.{length}
+use Rattle.schedule.specs.Schedule.{cardOf}
+use Rattle.text.specs.Hex.{hex}
+use Rattle.header.specs.Heading.{headerBytes}
+use Rattle.header.specs.Limits.{Within}
+use Rattle.ticket.specs.Grounds.{Says, Fits}
+use Rattle.ticket.specs.Print.{ticketText}
+use Rattle.ticket.specs.Ticket.{Parsed, accepted, refused, lineBytes, lineDigits, parse, lineOf}
+use Rattle.header.specs.declared.Header.{Header}
+use Rattle.ticket.proofs.Reader as reader
+use Rattle.ticket.proofs.Accepted as accepting
+use Rattle.ticket.proofs.Written as writing
+
+-- Every text is answered as the table of refusals says, on exactly the stated conditions and in the stated order.
+pub parse-says : (t : List ℕ) → Says t (parse t)
+parse-says = reader.says
+
+-- No other answer fits the table.
+pub parse-only : (t : List ℕ) (a : Parsed) → Says t a → parse t ≡ a
+parse-only = reader.only
+
+-- Every text is accepted, or refused by one number from 1 to 9.
+pub accepted-or-refused :
+    (t : List ℕ)
+    → ((h : Header) × (cards : List ℕ) × (parse t ≡ accepted h cards)) ⊎ ((k : ℕ) × Within 9 k × (parse t ≡ refused k))
+accepted-or-refused t =
+    (elim (parse t) as (λ a. parse t ≡ a → ((h : Header) × (cards : List ℕ) × (a ≡ accepted h cards)) ⊎ ((k : ℕ) × Within 9 k × (a ≡ refused k))) [
+      | accepted h cards ↦ λ e. inl (h, cards, refl)
+      | refused k ↦ λ e. inr (k, reader.refusal-number t k e, refl)
+    ]) refl
+
+module _ (t : List ℕ) (h : Header) (cards : List ℕ) (e : parse t ≡ accepted h cards) where
+  -- The values of an accepted ticket are within the limits.
+  pub accepted-fits : Fits h cards
+  accepted-fits = accepting.fits t h cards e
+
+  -- Its text is its header and a line for each frame, and no byte more.
+  pub accepted-length : length t ≡ headerBytes + lineBytes * length cards
+  accepted-length = accepting.text-length t h cards e
+
+  -- Its text is the one that its values are written as.
+  pub accepted-text : ticketText h cards ≡ t
+  accepted-text = writing.written t h cards e
+
+  -- The line handed back for a position is that frame's card in 2 digits.
+  pub line-card : (p : ℕ) → p < length cards → lineOf t p ≡ hex lineDigits (cardOf cards p)
+  line-card = writing.line-back-at t h cards e
+
+-- Two texts that are accepted with the same values are the same text.
+pub same-values : (s t : List ℕ) (h : Header) (cards : List ℕ) → parse s ≡ accepted h cards → parse t ≡ accepted h cards → s ≡ t
+same-values s t h cards e f = sym (accepted-text s h cards e) ∙ accepted-text t h cards f

@@ -1,0 +1,25 @@
+-- The tests of the reader against the plain conditions of specs/Grounds: a line, the header, the frame lines.
+-- Assumes nothing.
+use Prim.Native.Nat.{ℕ}
+use mathlib.Core.Path.{_≡_, _∙_}
+use mathlib.Core.List.{List}
+use Rattle.text.proofs.Lines.{line-true}
+use Rattle.header.specs.Heading.{headerDigits, headerOf, heading}
+use Rattle.header.proofs.Judged.{judge-accepts, heading-of}
+use Rattle.ticket.specs.Grounds.{HeaderPasses, LinePasses, LinesPass, cardsOf, part}
+use Rattle.ticket.specs.Ticket.{lineFault, linesFault}
+use Rattle.ticket.proofs.Faults.{line-0, no-fault}
+use Rattle.header.specs.declared.Answer.the-variants.{Accepted}
+
+module _ (t : List ℕ) where
+  pub header-accepted : HeaderPasses t → heading t ≡ Accepted (headerOf t)
+  header-accepted p =
+      heading-of t (line-true t 0 headerDigits (p .line))
+      ∙ judge-accepts (headerOf t) (p .edition) (p .mode) (p .cards) (p .pool) (p .frames)
+
+  module _ (i : ℕ) where
+    pub line-accepted : LinePasses t i → lineFault (part t) (cardsOf t) i ≡ 0
+    line-accepted p = line-0 (part t) (cardsOf t) i (line-true _ _ _ (p .line)) (p .card)
+
+  pub lines-accepted : (n : ℕ) → LinesPass t n → linesFault (part t) (cardsOf t) n ≡ 0
+  lines-accepted n p = no-fault (part t) (cardsOf t) n (λ i l. line-accepted i (p i l))

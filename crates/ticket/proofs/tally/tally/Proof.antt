@@ -1,0 +1,90 @@
+use Prim.Native.Nat.{_≤_, _-_}
+use mathlib.Core.Path.{_≡_, refl}
+use native.Mathlib.Omega.{arith}
+use denote.Ref.{now}
+use Rattle.ticket.proofs.Counting.{countsUpTo, count-small, count-next}
+use borrow.Author.Needs.{needs}
+use Rattle.ticket.proofs.tally.tally.Statement.{statement}
+use Rattle.ticket.proofs.tally.tally.Tie as tie
+use Rattle.ticket.proofs.tally.tally.Reads as reads
+use Rattle.ticket.proofs.tally.tally.Lts as lts
+use Rattle.ticket.proofs.tally.place.Reads as place-reads
+
+abbrev Inv-loop : tie.InvT-loop
+Inv-loop card n end count₀ i₀ count i = (i ≤ n) × (count ≡ countsUpTo card i)
+
+abbrev μ-loop : tie.MeasureT-loop
+μ-loop card n end count₀ i₀ count i = n - i
+
+loop-holds : tie.Need-loop-holds Inv-loop μ-loop
+loop-holds c = (omega arith, refl)
+
+shared-slice-read-place : tie.Need-shared-slice-read-place Inv-loop μ-loop
+shared-slice-read-place c = search needs
+
+place-requires : tie.Need-place-requires Inv-loop μ-loop
+place-requires c κs = search needs
+
+mul-count : tie.Need-mul-count Inv-loop μ-loop
+mul-count c =
+    let b = c .before .before .before in
+    omega (arith, c .before .before .before .before .before .pre .2 (b .loop .i) (omega arith))
+
+array-read-count : tie.Need-array-read-count Inv-loop μ-loop
+array-read-count c =
+    let b = c .before .before .before in
+    omega (arith, c .before .before .before .before .before .pre .2 (b .loop .i) (omega arith))
+
+add-count : tie.Need-add-count Inv-loop μ-loop
+add-count c =
+    let l = c .before .before .before .loop in
+    let a = c .before .before .before .before .before in
+    let small = count-small (now (a .args .card)) (l .count) (l .i) (l .inv .1) (a .pre .2 (l .i) (omega arith)) _ (c .place .ensures) in
+    omega (arith, small)
+
+mul-count-2 : tie.Need-mul-count-2 Inv-loop μ-loop
+mul-count-2 c =
+    let b = c .before .before .before in
+    omega (arith, c .before .before .before .before .before .pre .2 (b .loop .i) (omega arith))
+
+array-write-count : tie.Need-array-write-count Inv-loop μ-loop
+array-write-count c =
+    let b = c .before .before .before in
+    omega (arith, c .before .before .before .before .before .pre .2 (b .loop .i) (omega arith))
+
+add-i : tie.Need-add-i Inv-loop μ-loop
+add-i c = search needs
+
+loop-less : tie.Need-loop-less Inv-loop μ-loop
+loop-less c = search needs
+
+loop-again : tie.Need-loop-again Inv-loop μ-loop
+loop-again c =
+    let l = c .before .before .before .loop in
+    let a = c .before .before .before .before .before in
+    (omega arith, count-next (now (a .args .card)) (l .count) (l .i) (l .inv .1) (a .pre .2 (l .i) (omega arith)) _ (c .place .ensures))
+
+returns : tie.Need-returns Inv-loop μ-loop
+returns c =
+    let l = c .before .loop in
+    let e : l .i ≡ c .before .before .before .args .n = omega arith in
+    rw e at (l .inv .1)
+
+pub tally-spec : {M : Type 1} → statement M
+tally-spec =
+    tie.close
+    (tie.spec
+    Inv-loop
+    μ-loop
+    loop-holds
+    shared-slice-read-place
+    place-requires
+    mul-count
+    array-read-count
+    add-count
+    mul-count-2
+    array-write-count
+    add-i
+    loop-less
+    loop-again
+    returns)

@@ -1,0 +1,95 @@
+-- The table "Grounds for turning a ticket or call down" of document 01 for a ticket, row by row, in plain conditions.
+-- `Says t a` is that the table, read in its order, answers the text t with a. It is proved that `parse` gives this answer and no other.
+-- Assumes nothing.
+use Prim.Native.Nat.{ℕ, _*_, _≤_, _<_}
+use mathlib.Core.Path.{_≡_}
+use mathlib.Core.List.{List}
+use lib.ListN.{length, drop}
+use Rattle.schedule.specs.Count.{tabulate}
+use Rattle.schedule.specs.Schedule.{cardOf}
+use Rattle.text.specs.Text.{Line}
+use Rattle.header.specs.Heading.{headerDigits, headerBytes, headerOf}
+use Rattle.header.specs.Limits.{Within, Outside, edition1, saveAndKeep, maxCards, maxPool, maxFrames}
+use Rattle.ticket.specs.Ticket.{Parsed, accepted, refused, lineDigits, lineBytes, cardAt}
+use Rattle.header.specs.declared.Header.{Header}
+
+module _ (t : List ℕ) where
+  -- what stands in the header
+  abbrev pub editionOf : ℕ
+  editionOf = headerOf t .edition
+
+  abbrev pub modeOf : ℕ
+  modeOf = headerOf t .mode
+
+  abbrev pub cardsOf : ℕ
+  cardsOf = headerOf t .cards
+
+  abbrev pub poolOf : ℕ
+  poolOf = headerOf t .pool
+
+  abbrev pub framesOf : ℕ
+  framesOf = headerOf t .frames
+
+  -- "the part of the ticket that starts after its header"
+  abbrev pub part : List ℕ
+  part = drop headerBytes t
+
+  -- none of the grounds 1 to 6
+  pub record HeaderPasses : Type 0 where
+    pub line : Line t 0 headerDigits
+    pub edition : editionOf ≡ edition1
+    pub mode : modeOf ≤ saveAndKeep
+    pub cards : Within maxCards cardsOf
+    pub pool : Within maxPool poolOf
+    pub frames : framesOf ≤ maxFrames
+
+  -- neither ground 7 nor ground 8 at line i
+  pub record LinePasses (i : ℕ) : Type 0 where
+    pub line : Line part (lineBytes * i) lineDigits
+    pub card : cardAt part i < cardsOf
+
+  -- nor at any of the first n lines
+  abbrev pub LinesPass : ℕ → Type 0
+  LinesPass n = (i : ℕ) → i < n → LinePasses i
+
+  -- The rows, each with what must not have been met before it.
+  pub data Says : Parsed → Type 0 where
+    -- "the first 15 bytes are not 14 digits and an end byte"
+    row1 : (Line t 0 headerDigits → ⊥) → Says (refused 1)
+    -- "edition is not 01"
+    row2 : Line t 0 headerDigits → (editionOf ≡ edition1 → ⊥) → Says (refused 2)
+    -- "mode is over 02"
+    row3 : Line t 0 headerDigits → editionOf ≡ edition1 → saveAndKeep < modeOf → Says (refused 3)
+    -- "cards not 1 to 32"
+    row4 : Line t 0 headerDigits → editionOf ≡ edition1 → modeOf ≤ saveAndKeep → Outside maxCards cardsOf → Says (refused 4)
+    -- "pool not 1 to 1,024"
+    row5 :
+        Line t 0 headerDigits → editionOf ≡ edition1 → modeOf ≤ saveAndKeep → Within maxCards cardsOf → Outside maxPool poolOf
+        → Says (refused 5)
+    -- "frames over 4,096"
+    row6 :
+        Line t 0 headerDigits → editionOf ≡ edition1 → modeOf ≤ saveAndKeep → Within maxCards cardsOf → Within maxPool poolOf
+        → maxFrames < framesOf → Says (refused 6)
+    -- "a frame line is missing or is not 2 digits and an end byte"
+    row7 :
+        HeaderPasses → (i : ℕ) → i < framesOf → LinesPass i → (Line part (lineBytes * i) lineDigits → ⊥) → Says (refused 7)
+    -- "a card number is not below cards"
+    row8 :
+        HeaderPasses → (i : ℕ) → i < framesOf → LinesPass i → Line part (lineBytes * i) lineDigits → cardsOf ≤ cardAt part i
+        → Says (refused 8)
+    -- "bytes follow the last line"
+    row9 : HeaderPasses → LinesPass framesOf → lineBytes * framesOf < length part → Says (refused 9)
+    -- no ground
+    none :
+        HeaderPasses → LinesPass framesOf → length part ≤ lineBytes * framesOf
+        → Says (accepted (headerOf t) (tabulate framesOf (cardAt part)))
+
+-- What holds of the values of an accepted ticket.
+pub record Fits (h : Header) (cards : List ℕ) : Type 0 where
+  pub edition : h .edition ≡ edition1
+  pub mode : h .mode ≤ saveAndKeep
+  pub card-range : Within maxCards (h .cards)
+  pub pool : Within maxPool (h .pool)
+  pub frames : length cards ≡ h .frames
+  pub few : h .frames ≤ maxFrames
+  pub each-card : (i : ℕ) → i < length cards → cardOf cards i < h .cards

@@ -1,0 +1,3 @@
+pub mod Ticket
+pub mod Grounds
+pub mod Print

@@ -1,0 +1,92 @@
+-- The ticket (document 01, "The ticket, edition 1" and "Grounds for turning a ticket or call down"): what a text is read as.
+--
+-- Edge cases: a ticket with no frames is its header alone; a text cut short is refused by 1 in its header and by 7 in its lines.
+-- Assumes nothing.
+use Prim.Native.Nat.{ℕ, zero, suc, _+_, _*_, _-_}
+use mathlib.Core.Bool.{cond}
+use mathlib.Core.List.{List, [], _++_}
+use lib.Dec.{eqb, ltb}
+use lib.ListN.{length, take, drop, replicate}
+use Rattle.schedule.specs.Count.{howMany, tabulate}
+use Rattle.schedule.specs.Schedule.{cardOf}
+use Rattle.text.specs.Text.{number, isLine}
+use Rattle.header.specs.Heading.{headerBytes, heading}
+use Rattle.header.specs.Limits.{maxCards, maxFrames}
+use Rattle.header.specs.declared.Header.{Header}
+use Rattle.header.specs.declared.Answer.{Answer}
+use Rattle.header.specs.declared.Answer.the-variants.{Accepted, Refused}
+use Rattle.ticket.specs.declared.Ticket.{Ticket}
+
+-- What a text is read as: a header and the card of each frame in list order, or the number of a refusal.
+pub data Parsed : Type 0 where
+  accepted : Header → List ℕ → Parsed
+  refused : ℕ → Parsed
+
+-- "One line of 2 digits follows for each frame: its card". The width of a line is said here alone.
+abbrev pub lineDigits : ℕ
+lineDigits = 2
+
+abbrev pub lineBytes : ℕ
+lineBytes = lineDigits + 1
+
+-- A refusal, or, where there is none, what is refused next.
+abbrev pub orElse : ℕ → ℕ → ℕ
+orElse e next = cond (eqb e 0) next e
+
+-- The frame lines, in "the part of the ticket that starts after its header".
+module _ (s : List ℕ) where
+  -- the card of frame i
+  unfoldable pub cardAt : ℕ → ℕ
+  cardAt i = number s (lineBytes * i) 2
+
+  -- The refusal of line i, 7 before 8; 0 for none.
+  unfoldable pub lineFault : ℕ → ℕ → ℕ
+  lineFault cards i = cond (isLine s (lineBytes * i) lineDigits) (cond (ltb (cardAt i) cards) 0 8) 7
+
+  -- "line by line": the refusal of the first of n lines that has one; 0 for none
+  unfoldable pub linesFault : ℕ → ℕ → ℕ
+  linesFault cards zero = 0
+  linesFault cards (suc n) = orElse (linesFault cards n) (lineFault cards n)
+
+  -- Refusals 7 to 9 of a part that should be n lines; 0 for none.
+  unfoldable pub partFault : ℕ → ℕ → ℕ
+  partFault cards n = orElse (linesFault cards n) (cond (ltb (lineBytes * n) (length s)) 9 0)
+
+abbrev pub parsePart : Answer → List ℕ → Parsed
+parsePart (Refused k) s = refused k
+parsePart (Accepted h) s =
+    cond (eqb (partFault s (h .cards) (h .frames)) 0)
+    (accepted h (tabulate (h .frames) (cardAt s)))
+    (refused (partFault s (h .cards) (h .frames)))
+
+-- "Tickets: 1 to 6, then line by line 7 before 8, then 9"
+unfoldable pub parse : List ℕ → Parsed
+parse t = parsePart (heading t) (drop headerBytes t)
+
+-- n zeros
+unfoldable pub zeros : ℕ → List ℕ
+zeros n = replicate n 0
+
+-- The ticket as the code answers it: the cards fill the first places, the others are 0; beside a refusal all are 0.
+abbrev pub ticketOf : Parsed → Ticket
+ticketOf (accepted h cards) = record { answer = Accepted h; card = cards ++ zeros (maxFrames - length cards) }
+ticketOf (refused k) = record { answer = Refused k; card = zeros maxFrames }
+
+-- The number of the refusal, 0 for an accepted ticket.
+abbrev pub refusalOf : Parsed → ℕ
+refusalOf (accepted h cards) = 0
+refusalOf (refused k) = k
+
+-- "a line is wanted at a position not below L": 16, after the ticket's own
+abbrev pub lineRefusalOf : Parsed → ℕ → ℕ
+lineRefusalOf (accepted h cards) p = cond (ltb p (length cards)) 0 16
+lineRefusalOf (refused k) p = k
+
+-- "that frame's line as a part of the caller's own ticket, without its end byte"; empty with a refusal
+unfoldable pub lineOf : List ℕ → ℕ → List ℕ
+lineOf t p = cond (eqb (lineRefusalOf (parse t) p) 0) (take lineDigits (drop (headerBytes + lineBytes * p) t)) []
+
+-- "A count of frames for each of the 32 cards"; beside a refusal all are 0
+abbrev pub countsOf : Parsed → List ℕ
+countsOf (accepted h cards) = tabulate maxCards (λ c. howMany (length cards) (λ i. eqb (cardOf cards i) c))
+countsOf (refused k) = zeros maxCards
