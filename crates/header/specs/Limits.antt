@@ -17,15 +17,15 @@ save = 1
 abbrev pub saveAndKeep : ℕ
 saveAndKeep = 2
 
--- "Cards 1 to 32": a dock has 32 card slots.
+-- "Cards 1 to 32". Answers that have an entry for each card have 32 entries.
 abbrev pub maxCards : ℕ
 maxCards = 32
 
--- "pool m 1 to 1,024": the most buffers of a dock.
+-- "pool m 1 to 1,024". The most frames that can wait at once, which decides the size of a saver's record.
 abbrev pub maxPool : ℕ
 maxPool = 1024
 
--- "frames L 0 to 4,096": a position and a cycle then fit in 4 digits, and a ticket in 65,536 bytes.
+-- "frames L 0 to 4,096". A plan never has more cycles than frames, so cycles and positions fit in 16 bits; a ticket has at most 12,303 bytes.
 abbrev pub maxFrames : ℕ
 maxFrames = 4096
 

@@ -2,7 +2,7 @@
 -- Assumes nothing.
 use Prim.Native.Nat.{ℕ, zero, suc, _+_, _*_, _^_, _≤_, _<_}
 use mathlib.Core.Path.{_≡_, refl}
-use mathlib.Core.Bool.{Bool, true, false, _&&_}
+use mathlib.Core.Bool.{true, false, _&&_, and-false}
 use mathlib.Core.List.{List}
 use native.Mathlib.Omega.{arith}
 use native.Mathlib.Numerals.{add-one}
@@ -19,10 +19,6 @@ use Rattle.text.specs.Text.{digit, digitValues, digits, number, isLine, 
 pub value-of : (l : List ℕ) → l ≡ digitValues → (b : ℕ) → b < 256 → getD l b 0 ≡ digit b
 unfolding digitValues
 value-of l e b h = rw e (getD-tabulate 256 digit b 0 h)
-
-nothing : (b : Bool) → (b && false) ≡ false
-nothing true = refl
-nothing false = refl
 
 module _ (s : List ℕ) (at : ℕ) where
   pub number-step : (n : ℕ) → number s at n * 16 + digit (getD s (at + n) 0) ≡ number s at (suc n)
@@ -91,7 +87,7 @@ module _ (s : List ℕ) (at : ℕ) where
 
   pub no-digits : (n : ℕ) → digits s at n ≡ false → isLine s at n ≡ false
   unfolding isLine
-  no-digits n e = rw e (nothing (ltb (at + n) (length s)))
+  no-digits n e = rw e (and-false (ltb (at + n) (length s)))
 
   -- the same with the code's `n + 1`
   pub digits-on : (n : ℕ) → digits s at n ≡ true → digit (getD s (at + n) 0) < 16 → digits s at (n + 1) ≡ true
@@ -110,7 +106,3 @@ pub field-digits : (s : List ℕ) (n at k : ℕ) → isLine s 0 n ≡ true → a
 field-digits s n at k e h =
     all-digits s at k
     (λ i l. let q : 0 + (at + i) ≡ at + i = omega arith in rw q at (digit-at s 0 n (at + i) (line-digits s 0 n e) (omega arith)))
-
--- two digits fit in 8 bits
-pub field-byte : (s : List ℕ) (n at : ℕ) → isLine s 0 n ≡ true → at + 2 ≤ n → number s at 2 < 256
-field-byte s n at e h = number-lt s at 2 (field-digits s n at 2 e h)

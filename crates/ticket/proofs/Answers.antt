@@ -14,9 +14,9 @@ use Rattle.schedule.proofs.Lists.{from-place, drop-replicate, length-tabulate}
 use Rattle.header.specs.Heading.{headerBytes, heading}
 use Rattle.header.specs.Limits.{maxCards, maxFrames}
 use Rattle.ticket.specs.Grounds.{Fits}
-use Rattle.ticket.specs.Ticket.{Parsed, accepted, refused, lineBytes, lineDigits, cardAt, partFault, parse, ticketOf, lineRefusalOf, lineOf, countsOf, zeros}
+use Rattle.ticket.specs.Ticket.{Parsed, accepted, refused, lineBytes, lineDigits, cardAt, partFault, parse, ticketOf, lineRefusalOf, lineOf, countsUpTo, countsOf, zeros}
 use Rattle.ticket.proofs.Accepted.{as-many, fits, line-inside}
-use Rattle.ticket.proofs.Counting.{countsUpTo, counts-front}
+use Rattle.ticket.proofs.Counting.{counts-front}
 use Rattle.ticket.proofs.Reader.{header-passes, header-read, refusal-number}
 use Rattle.header.specs.declared.Header.{Header}
 use Rattle.ticket.specs.declared.Ticket.{Ticket}

@@ -8,18 +8,16 @@ use native.Mathlib.Numerals.{add-one}
 use lib.Dec.{eqb}
 use lib.ListN.{length, getD, set, List·getD-append}
 use borrow.Author.Tests.{eq-eqb, ne-eqb}
-use Rattle.schedule.specs.Count.{bit, howMany, tabulate}
+use Rattle.schedule.specs.Count.{bit, howMany}
 use Rattle.schedule.specs.Schedule.{cardOf}
 use Rattle.schedule.proofs.Lists.{getD-tabulate, tabulate-cong, set-tabulate}
 use Rattle.schedule.proofs.Sums.{sum-cong, howMany-le}
 use Rattle.header.specs.Limits.{maxCards}
+use Rattle.ticket.specs.Ticket.{countsUpTo}
 
 -- how many of the first i frames card c has
-abbrev pub countOf : List ℕ → ℕ → ℕ → ℕ
+abbrev countOf : List ℕ → ℕ → ℕ → ℕ
 countOf cards i c = howMany i (λ j. eqb (cardOf cards j) c)
-
-abbrev pub countsUpTo : List ℕ → ℕ → List ℕ
-countsUpTo cards i = tabulate maxCards (countOf cards i)
 
 module _ (cards count : List ℕ) (i : ℕ) (e : count ≡ countsUpTo cards i) (l : cardOf cards i < maxCards) (k : ℕ) (q : k ≡ cardOf cards i) where
   count-read : getD count (cardOf cards i) 0 ≡ countOf cards i (cardOf cards i)

@@ -86,7 +86,11 @@ lineRefusalOf (refused k) p = k
 unfoldable pub lineOf : List ℕ → ℕ → List ℕ
 lineOf t p = cond (eqb (lineRefusalOf (parse t) p) 0) (take lineDigits (drop (headerBytes + lineBytes * p) t)) []
 
+-- for each of the 32 cards, how many of the first n frames it has
+abbrev pub countsUpTo : List ℕ → ℕ → List ℕ
+countsUpTo cards n = tabulate maxCards (λ c. howMany n (λ i. eqb (cardOf cards i) c))
+
 -- "A count of frames for each of the 32 cards"; beside a refusal all are 0
 abbrev pub countsOf : Parsed → List ℕ
-countsOf (accepted h cards) = tabulate maxCards (λ c. howMany (length cards) (λ i. eqb (cardOf cards i) c))
+countsOf (accepted h cards) = countsUpTo cards (length cards)
 countsOf (refused k) = zeros maxCards

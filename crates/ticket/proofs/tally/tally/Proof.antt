@@ -2,7 +2,8 @@ use Prim.Native.Nat.{_≤_, _-_}
 use mathlib.Core.Path.{_≡_, refl}
 use native.Mathlib.Omega.{arith}
 use denote.Ref.{now}
-use Rattle.ticket.proofs.Counting.{countsUpTo, count-small, count-next}
+use Rattle.ticket.specs.Ticket.{countsUpTo}
+use Rattle.ticket.proofs.Counting.{count-small, count-next}
 use borrow.Author.Needs.{needs}
 use Rattle.ticket.proofs.tally.tally.Statement.{statement}
 use Rattle.ticket.proofs.tally.tally.Tie as tie
