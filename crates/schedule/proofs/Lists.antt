@@ -2,7 +2,7 @@
 -- Assumes nothing.
 use Prim.Native.Nat.{ℕ, zero, suc, _+_, _-_, _≤_, _<_, zero-le}
 use mathlib.Core.Path.{_≡_, refl, sym, _∙_}
-use mathlib.Core.List.{List, [], _∷_, _++_, append-assoc, reverse, reverse-cons, map}
+use mathlib.Core.List.{List, [], _∷_, _++_, append-assoc, reverse, reverse-cons, map, map-append}
 use native.Mathlib.Omega.{arith}
 use native.Mathlib.Numerals.{add-one}
 use native.Mathlib.Nat.{sub-zero, zero-sub, suc-sub-suc}
@@ -99,3 +99,8 @@ pub map-getD : (f : ℕ → ℕ) (l : List ℕ) (i : ℕ) → i < length l → g
 map-getD f [] i h = omega arith
 map-getD f (x ∷ l) zero h = refl
 map-getD f (x ∷ l) (suc i) h = map-getD f l i (omega arith)
+
+pub map-reverse : (f : ℕ → ℕ) (l : List ℕ) → map f (reverse l) ≡ reverse (map f l)
+map-reverse f [] = refl
+map-reverse f (x ∷ l) =
+    rw (reverse-cons x l) (map-append f (reverse l) (x ∷ []) ∙ rw (map-reverse f l) (sym (reverse-cons (f x) (map f l))))

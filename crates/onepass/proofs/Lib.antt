@@ -1,0 +1,4 @@
+pub mod Process
+pub mod Shown
+pub mod Due
+pub mod Assigned

@@ -1,0 +1,66 @@
+-- What the parts of `plan` found, as the answer to the ticket.
+-- Assumes nothing.
+use Prim.Native.Nat.{ℕ, _-_, _≤_, _<_}
+use mathlib.Core.Path.{_≡_, refl, ap, _∙_}
+use mathlib.Core.List.{List, _++_}
+use native.Mathlib.Omega.{arith}
+use lib.ListN.{length, take}
+use lib.Seq.{take-at}
+use borrow.Author.Tests.{lt-ltb, le-ltb}
+use Rattle.header.specs.Limits.{maxFrames}
+use Rattle.header.specs.declared.Header.{Header}
+use Rattle.header.specs.declared.Answer.the-variants.{Accepted, Refused as RefusedTicket}
+use Rattle.ticket.specs.Ticket.{accepted, refused, parse, ticketOf, zeros}
+use Rattle.ticket.specs.Grounds.{Fits}
+use Rattle.ticket.specs.declared.Ticket.{Ticket}
+use Rattle.ticket.proofs.Answers.{was-refused, shown}
+use Rattle.planner.specs.Plan.{planFor, answerTo, bufferAfter, Answered}
+use Rattle.planner.specs.Pass.{Asked, Filled}
+use Rattle.planner.specs.declared.Answer.the-variants.{Planned, Refused}
+
+-- a list that is read, and a buffer
+module _ (h : Header) (cards before : List ℕ) (f : Fits h cards) where
+  pub too-small : length before < h .frames → Answered (accepted h cards) before before (Refused 10)
+  unfolding answerTo bufferAfter
+  too-small l =
+      let g : length before < length cards = omega (arith, f .frames) in
+      record { answer = rw (lt-ltb (length before) (length cards) g); buffer = rw (lt-ltb (length before) (length cards) g) }
+
+  module _ (l : h .frames ≤ length before) where
+    pub asked : Asked (h .pool) cards before
+    asked =
+        record {
+          pool = f .pool .0;
+          few = omega (arith, f .frames, f .few);
+          each-card = λ i k. omega (arith, f .each-card i k, f .card-range .1);
+          room = omega (arith, f .frames);
+        }
+
+    pub planned :
+        (after : List ℕ) (T : ℕ) → Filled (planFor (h .mode) (h .pool) cards) before after T
+        → Answered (accepted h cards) before after (Planned (record { 0 = T }))
+    unfolding answerTo bufferAfter
+    planned after T p =
+        let g : length cards ≤ length before = omega (arith, f .frames) in
+        record {
+          answer = rw (le-ltb (length before) (length cards) g, p .length-is);
+          buffer = rw (le-ltb (length before) (length cards) g) (p .buffer);
+        }
+
+-- the ticket's reader has answered
+module _ (t : List ℕ) (x : Ticket) (e : x ≡ ticketOf (parse t)) where
+  pub ticket-refused : (k : ℕ) (before : List ℕ) → x .answer ≡ RefusedTicket k → Answered (parse t) before before (Refused k)
+  unfolding answerTo bufferAfter
+  ticket-refused k before q = rw (was-refused t x e k q) (record { answer = refl; buffer = refl })
+
+  module _ (h : Header) (q : x .answer ≡ Accepted h) where
+    front : take (h .frames) (x .card) ≡ shown t x e h q .cards
+    front =
+        let s = shown t x e h q in
+        ap (take (h .frames)) (s .array) ∙ take-at (s .cards) (zeros (maxFrames - length (s .cards))) (h .frames) (s .fitting .frames)
+
+    pub list-fits : Fits h (take (h .frames) (x .card))
+    list-fits = rw front (shown t x e h q .fitting)
+
+    pub list-read : parse t ≡ accepted h (take (h .frames) (x .card))
+    list-read = rw front (shown t x e h q .parsed)

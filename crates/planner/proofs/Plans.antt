@@ -1,0 +1,79 @@
+-- From one pass to the plan of each mode.
+-- Assumes nothing.
+use Prim.Native.Nat.{ℕ, suc, _+_, _-_, _≤_, _<_}
+use mathlib.Core.Path.{_≡_, refl, sym, ap, _∙_}
+use mathlib.Core.Bool.{true, false}
+use mathlib.Core.List.{List, map, reverse}
+use native.Mathlib.Omega.{arith}
+use lib.ListN.{length, getD, drop, length-append, length-map, length-drop, length-reverse, List·getD-append}
+use borrow.Author.Tests.{eq-eqb, ne-eqb}
+use lib.Seq.{take-at, drop-at}
+use Rattle.schedule.specs.Greedy.{saveAndKeep, greedyWriting, lazyPrefetching}
+use Rattle.schedule.proofs.Lists.{le-largest, reverse-getD, map-reverse}
+use Rattle.schedule.proofs.Main.{save-correct, save-length}
+use Rattle.header.specs.Limits.{maxFrames, read, save}
+use Rattle.onepass.specs.AsOf.{asOf}
+use Rattle.planner.specs.Plan.{planFor, written}
+use Rattle.planner.specs.Pass.{turned, onFirst, Asked, Passed, Filled}
+
+-- the elements written are replaced by f of them
+onFirst-written : (f : ℕ → ℕ) (n : ℕ) (l before : List ℕ) → length l ≡ n → onFirst f n (written l before) ≡ written (map f l) before
+onFirst-written f n l before e =
+    rw (take-at l (drop (length l) before) n e, drop-at l (drop (length l) before) n e, length-map l f)
+
+-- the plan of each mode
+module _ (mode m : ℕ) (cards : List ℕ) where
+  pub plan-read : mode ≡ read → planFor mode m cards ≡ lazyPrefetching m cards
+  plan-read e = rw (eq-eqb mode read e)
+
+  pub plan-save : mode ≡ save → planFor mode m cards ≡ greedyWriting m cards
+  plan-save e = rw e
+
+  pub plan-keep : (mode ≡ read → ⊥) → (mode ≡ save → ⊥) → planFor mode m cards ≡ saveAndKeep m cards
+  plan-keep e g = rw (ne-eqb mode read e, ne-eqb mode save g)
+
+module _ {m : ℕ} {cards before after : List ℕ} {made all : ℕ} (f : Asked m cards before) where
+  pub saved : Passed m false cards before after made all → Filled (greedyWriting m cards) before after all
+  saved p = record { buffer = p .filled; length-is = p .all-is }
+
+  pub kept : {now : List ℕ} → Passed m false cards before after made all → now ≡ onFirst (asOf made) (length cards) after
+      → Filled (saveAndKeep m cards) before now made
+  kept p e =
+      record {
+        buffer =
+            e
+            ∙ rw (p .filled, p .kept)
+            (onFirst-written (asOf made) (length cards) (greedyWriting m cards .cycles) before (save-correct m cards (f .pool) .one-each));
+        length-is = p .made-is;
+      }
+
+  module _ (p : Passed m true cards before after made all) where
+    abbrev back : List ℕ
+    back = greedyWriting m (reverse cards) .cycles
+
+    back-length : length back ≡ length cards
+    back-length = save-correct m (reverse cards) (f .pool) .one-each ∙ length-reverse cards
+
+    abbrev turn : ℕ → ℕ
+    turn c = all - c + 1
+
+    -- what turning the cycles round asks for
+    pub cycles-le : (i : ℕ) → i < length cards → getD after i 0 ≤ all
+    cycles-le i l =
+        rw (p .filled, List·getD-append (reverse back) (drop (length (reverse back)) before) 0 i (omega (arith, length-reverse back, back-length)), reverse-getD back i (omega (arith, back-length)))
+        (omega (arith, le-largest back (length back - suc i), save-length m (reverse cards) (f .pool), p .all-is))
+
+    pub room : length cards ≤ length after
+    room = rw (p .filled) (omega (arith, length-append (reverse back) (drop (length (reverse back)) before), length-reverse back, back-length))
+
+    pub turned-round : {now : List ℕ} → now ≡ onFirst turn (length cards) after → Filled (lazyPrefetching m cards) before now all
+    unfolding lazyPrefetching
+    turned-round e =
+        record {
+          buffer =
+              e
+              ∙ rw (p .filled)
+              (onFirst-written turn (length cards) (reverse back) before (length-reverse back ∙ back-length)
+              ∙ rw (map-reverse turn back, p .all-is));
+          length-is = p .all-is;
+        }

@@ -1,0 +1,15 @@
+use mathlib.Core.Path.{sym}
+use borrow.Author.Tests.{le-leb, lt-leb}
+use Rattle.planner.proofs.modes.as_of.Statement.{statement}
+use Rattle.planner.proofs.modes.as_of.Tie as tie
+use Rattle.planner.proofs.modes.as_of.Reads as reads
+use Rattle.planner.proofs.modes.as_of.Lts as lts
+
+returns : tie.Need-returns
+returns c = rw (le-leb _ _ (c .if1 .taken))
+
+returns-2 : tie.Need-returns-2
+returns-2 c = rw (lt-leb _ _ (c .if1 .left))
+
+pub as-of-spec : {M : Type 1} → statement M
+as-of-spec = tie.close (tie.spec returns returns-2)

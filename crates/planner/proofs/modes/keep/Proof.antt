@@ -1,0 +1,68 @@
+use Prim.Native.Nat.{_≤_, _-_}
+use mathlib.Core.Path.{_≡_}
+use native.Mathlib.Omega.{arith}
+use Rattle.onepass.specs.AsOf.{asOf}
+use Rattle.planner.proofs.Firsts.{Replaced, replaced-none, replaced-length, replaced-next}
+use borrow.Author.Needs.{needs}
+use Rattle.planner.proofs.modes.keep.Statement.{statement}
+use Rattle.planner.proofs.modes.keep.Tie as tie
+use Rattle.planner.proofs.modes.keep.Reads as reads
+use Rattle.planner.proofs.modes.keep.Lts as lts
+use Rattle.planner.proofs.modes.as_of.Reads as as-of-reads
+
+abbrev Inv-loop : tie.InvT-loop
+Inv-loop out₀ n made i₀ out i = (i ≤ n) × Replaced (asOf made) i out₀ out
+
+abbrev μ-loop : tie.MeasureT-loop
+μ-loop out₀ n made i₀ out i = n - i
+
+loop-holds : tie.Need-loop-holds Inv-loop μ-loop
+loop-holds c = (omega arith, replaced-none _ _)
+
+mul-as-of : tie.Need-mul-as-of Inv-loop μ-loop
+mul-as-of c = omega (arith, c .before .before .before .good)
+
+slice-read-as-of : tie.Need-slice-read-as-of Inv-loop μ-loop
+slice-read-as-of c = omega (arith, replaced-length (c .before .before .loop .inv .1), c .before .before .before .before .pre)
+
+as-of-requires : tie.Need-as-of-requires Inv-loop μ-loop
+as-of-requires c κs = search needs
+
+mul-out : tie.Need-mul-out Inv-loop μ-loop
+mul-out c = omega (arith, c .before .before .before .before .before .good)
+
+slice-write-out : tie.Need-slice-write-out Inv-loop μ-loop
+slice-write-out c = omega (arith, replaced-length (c .before .before .before .loop .inv .1), c .before .before .before .before .before .pre)
+
+add-i : tie.Need-add-i Inv-loop μ-loop
+add-i c = search needs
+
+loop-less : tie.Need-loop-less Inv-loop μ-loop
+loop-less c = search needs
+
+loop-again : tie.Need-loop-again Inv-loop μ-loop
+loop-again c = (omega arith, replaced-next (c .before .before .before .loop .inv .1) _ (omega (arith, c .before .before .before .before .before .pre)) (c .as-of .ensures))
+
+same-length : tie.Need-same-length Inv-loop μ-loop
+same-length c = replaced-length (c .before .loop .inv .1)
+
+returns : tie.Need-returns Inv-loop μ-loop
+returns c = let e : c .before .loop .i ≡ c .before .before .before .args .n = omega arith in rw (← e) (c .before .loop .inv .1 .so-far)
+
+pub keep-spec : {M : Type 1} → statement M
+keep-spec =
+    tie.close
+    (tie.spec
+    Inv-loop
+    μ-loop
+    loop-holds
+    mul-as-of
+    slice-read-as-of
+    as-of-requires
+    mul-out
+    slice-write-out
+    add-i
+    loop-less
+    loop-again
+    same-length
+    returns)

@@ -1,0 +1,23 @@
+use Rattle.planner.proofs.Plans.{kept}
+use borrow.Author.Needs.{needs}
+use Rattle.planner.proofs.modes.keep_plan.Statement.{statement}
+use Rattle.planner.proofs.modes.keep_plan.Tie as tie
+use Rattle.planner.proofs.modes.keep_plan.Reads as reads
+use Rattle.planner.proofs.modes.keep_plan.Lts as lts
+use Rattle.planner.proofs.modes.keep.Reads as keep-reads
+use Rattle.planner.proofs.pass.pass.Reads as pass-reads
+
+pass-requires : tie.Need-pass-requires
+pass-requires c κs = search needs
+
+keep-requires : tie.Need-keep-requires
+keep-requires c κs = search needs
+
+same-length : tie.Need-same-length
+same-length c = search needs
+
+returns : tie.Need-returns
+returns c = kept (c .before .before .before .before .before .before .before .before .before .before .pre) (c .before .before .before .before .before .before .pass .ensures) (c .before .before .keep .ensures)
+
+pub keep-plan-spec : {M : Type 1} → statement M
+keep-plan-spec = tie.close (tie.spec pass-requires keep-requires same-length returns)

@@ -1,0 +1,28 @@
+use Rattle.planner.proofs.Plans.{cycles-le, room, turned-round}
+use borrow.Author.Needs.{needs}
+use Rattle.planner.proofs.modes.read_plan.Statement.{statement}
+use Rattle.planner.proofs.modes.read_plan.Tie as tie
+use Rattle.planner.proofs.modes.read_plan.Reads as reads
+use Rattle.planner.proofs.modes.read_plan.Lts as lts
+use Rattle.planner.proofs.modes.turn_round.Reads as turn-round-reads
+use Rattle.planner.proofs.pass.pass.Reads as pass-reads
+
+pass-requires : tie.Need-pass-requires
+pass-requires c κs = search needs
+
+turn-round-requires : tie.Need-turn-round-requires
+turn-round-requires c κs =
+    let f = c .before .before .before .before .before .before .before .pre in
+    let p = c .before .before .before .pass .ensures in
+    (room f p, p .all-few, cycles-le f p)
+
+same-length : tie.Need-same-length
+same-length c = search needs
+
+returns : tie.Need-returns
+returns c =
+    let p = c .before .before .before .before .before .before in
+    turned-round (p .before .before .before .before .pre) (p .pass .ensures) (c .before .before .turn-round .ensures)
+
+pub read-plan-spec : {M : Type 1} → statement M
+read-plan-spec = tie.close (tie.spec pass-requires turn-round-requires same-length returns)

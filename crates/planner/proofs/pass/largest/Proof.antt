@@ -1,0 +1,59 @@
+use Prim.Native.Nat.{_≤_, _-_}
+use mathlib.Core.Path.{_≡_}
+use native.Mathlib.Omega.{arith}
+use Rattle.planner.specs.Pass.{Largest}
+use Rattle.planner.proofs.Latest.{largest-none, largest-same, largest-next}
+use borrow.Author.Needs.{needs}
+use Rattle.planner.proofs.pass.largest.Statement.{statement}
+use Rattle.planner.proofs.pass.largest.Tie as tie
+use Rattle.planner.proofs.pass.largest.Reads as reads
+use Rattle.planner.proofs.pass.largest.Lts as lts
+
+abbrev Inv-loop : tie.InvT-loop
+Inv-loop latest top₀ c₀ top c = (c ≤ 32) × Largest c latest top
+
+abbrev μ-loop : tie.MeasureT-loop
+μ-loop latest top₀ c₀ top c = 32 - c
+
+loop-holds : tie.Need-loop-holds Inv-loop μ-loop
+loop-holds c = (omega arith, largest-none _)
+
+mul-l : tie.Need-mul-l Inv-loop μ-loop
+mul-l c = search needs
+
+element-copy-out-l : tie.Need-element-copy-out-l Inv-loop μ-loop
+element-copy-out-l c = search needs
+
+add-c : tie.Need-add-c Inv-loop μ-loop
+add-c c = search needs
+
+loop-less : tie.Need-loop-less Inv-loop μ-loop
+loop-less c = search needs
+
+loop-again : tie.Need-loop-again Inv-loop μ-loop
+loop-again c = (omega arith, largest-next _ _ _ (c .before .before .before .loop .inv .1) (omega arith))
+
+loop-less-2 : tie.Need-loop-less-2 Inv-loop μ-loop
+loop-less-2 c = search needs
+
+loop-again-2 : tie.Need-loop-again-2 Inv-loop μ-loop
+loop-again-2 c = (omega arith, largest-same _ _ _ (c .before .before .before .loop .inv .1) (omega arith))
+
+returns : tie.Need-returns Inv-loop μ-loop
+returns c = let e : c .before .loop .c ≡ 32 = omega arith in rw e at (c .before .loop .inv .1)
+
+pub largest-spec : {M : Type 1} → statement M
+largest-spec =
+    tie.close
+    (tie.spec
+    Inv-loop
+    μ-loop
+    loop-holds
+    mul-l
+    element-copy-out-l
+    add-c
+    loop-less
+    loop-again
+    loop-less-2
+    loop-again-2
+    returns)

@@ -1,0 +1,169 @@
+use Prim.Native.Nat.{_≤_, _<_, _-_}
+use mathlib.Core.Logic.{⊎-elim}
+use native.Mathlib.Omega.{arith}
+use denote.Ref.{now}
+use Rattle.planner.proofs.Tables.{Turn, Open}
+use Rattle.planner.proofs.Tables as tables
+use borrow.Author.Needs.{needs}
+use Rattle.planner.proofs.pass.pass.Statement.{statement}
+use Rattle.planner.proofs.pass.pass.Tie as tie
+use Rattle.planner.proofs.pass.pass.Reads as reads
+use Rattle.planner.proofs.pass.pass.Lts as lts
+use Rattle.planner.proofs.pass.card_place.Reads as card-place-reads
+use Rattle.planner.proofs.pass.cycle_place.Reads as cycle-place-reads
+use Rattle.planner.proofs.pass.largest.Reads as largest-reads
+use Rattle.planner.proofs.pass.next_cycle.Reads as next-cycle-reads
+use Rattle.planner.proofs.pass.place_of.Reads as place-of-reads
+
+abbrev Inv-loop : tie.InvT-loop
+Inv-loop cards m back out₀ due₀ latest₀ made₀ waiting₀ n k₀ out due latest made waiting k = Turn m back cards out₀ out due latest made waiting k
+
+abbrev μ-loop : tie.MeasureT-loop
+μ-loop cards m back out₀ due₀ latest₀ made₀ waiting₀ n k₀ out due latest made waiting k = n - k
+
+loop-holds : tie.Need-loop-holds Inv-loop μ-loop
+loop-holds c = tables.first-turn _ _ _ _
+
+add-made : tie.Need-add-made Inv-loop μ-loop
+add-made c = omega (arith, tables.made-low (c .before .before .before .before .before .pre) (c .before .before .loop .inv) (c .before .loop-test .taken) (c .if1 .taken))
+
+cycle-place-requires : tie.Need-cycle-place-requires Inv-loop μ-loop
+cycle-place-requires c κs = search needs
+
+mul-waiting : tie.Need-mul-waiting Inv-loop μ-loop
+mul-waiting c = search needs
+
+array-read-waiting : tie.Need-array-read-waiting Inv-loop μ-loop
+array-read-waiting c = omega (arith, c .cycle-place .ensures, tables.made-low (c .before .before .before .before .before .before .pre) (c .before .before .before .loop .inv) (c .before .before .loop-test .taken) (c .before .if1 .taken))
+
+sub-waiting : tie.Need-sub-waiting Inv-loop μ-loop
+sub-waiting c = rw (c .cycle-place .ensures) (tables.due-le-waiting (c .before .before .before .before .before .before .pre) (c .before .before .before .loop .inv) (c .before .before .loop-test .taken) (c .before .if1 .taken))
+
+-- the pool is full and a cycle is made, or there is room
+opened :
+    (c : tie.Joined1 Inv-loop μ-loop)
+    → Open (c .before .before .before .before .before .args .m) (c .before .before .before .before .before .args .back)
+    (now (c .before .before .before .before .before .args .cards)) (c .before .before .loop .out) (c .before .before .loop .due)
+    (c .before .before .loop .latest) (c .if1 .made) (c .if1 .waiting) (c .before .before .loop .k)
+opened c =
+    let f = c .before .before .before .before .before .pre in
+    let v = c .before .before .loop .inv in
+    ⊎-elim
+    (λ w. rw (w .2, w .3, w .1 .ensures) (tables.cycle-made f v (c .before .loop-test .taken) (w .0 .taken)))
+    (λ w. rw (w .1, w .2) (tables.room-left f v (c .before .loop-test .taken) (w .0 .left)))
+    (c .if1 .came)
+
+place-of-requires : tie.Need-place-of-requires Inv-loop μ-loop
+place-of-requires c κs = search needs
+
+shared-slice-read-card-place : tie.Need-shared-slice-read-card-place Inv-loop μ-loop
+shared-slice-read-card-place c = c .before .place-of .ensures .1
+
+card-place-requires : tie.Need-card-place-requires Inv-loop μ-loop
+card-place-requires c κs = search needs
+
+card-in : (c : tie.After-card-place Inv-loop μ-loop) → c .card-place .result < 32
+card-in c =
+    let f = c .before .before .before .before .before .before .before .before .pre in
+    omega (arith, f .each-card (c .before .before .place-of .result) (c .before .before .place-of .ensures .1), c .card-place .ensures)
+
+mul-next-cycle : tie.Need-mul-next-cycle Inv-loop μ-loop
+mul-next-cycle c = omega (arith, card-in c)
+
+array-read-next-cycle : tie.Need-array-read-next-cycle Inv-loop μ-loop
+array-read-next-cycle c = card-in c
+
+next-cycle-requires : tie.Need-next-cycle-requires Inv-loop μ-loop
+next-cycle-requires c κs = omega (arith, opened (c .before .before .before) .latest-low (c .card-place .result), opened (c .before .before .before) .made-low)
+
+cycle-place-requires-2 : tie.Need-cycle-place-requires-2 Inv-loop μ-loop
+cycle-place-requires-2 c κs = search needs
+
+mul-latest : tie.Need-mul-latest Inv-loop μ-loop
+mul-latest c = omega (arith, card-in (c .before .before))
+
+array-write-latest : tie.Need-array-write-latest Inv-loop μ-loop
+array-write-latest c = card-in (c .before .before)
+
+cycle-in : (c : tie.After-cycle-place2 Inv-loop μ-loop) → c .cycle-place2 .result ≤ 4096
+cycle-in c =
+    let o = opened (c .before .before .before .before .before) in
+    omega (arith, c .cycle-place2 .ensures, c .before .next-cycle .ensures, o .latest-low (c .before .before .card-place .result), o .made-low)
+
+mul-due : tie.Need-mul-due Inv-loop μ-loop
+mul-due c = omega (arith, cycle-in c)
+
+array-read-due : tie.Need-array-read-due Inv-loop μ-loop
+array-read-due c = omega (arith, cycle-in c)
+
+add-due : tie.Need-add-due Inv-loop μ-loop
+add-due c = omega (arith, opened (c .before .before .before .before .before) .due-low (c .cycle-place2 .result) (cycle-in c))
+
+mul-due-2 : tie.Need-mul-due-2 Inv-loop μ-loop
+mul-due-2 c = omega (arith, cycle-in c)
+
+array-write-due : tie.Need-array-write-due Inv-loop μ-loop
+array-write-due c = omega (arith, cycle-in c)
+
+mul-out : tie.Need-mul-out Inv-loop μ-loop
+mul-out c = omega (arith, c .before .before .before .before .place-of .ensures .1, c .before .before .before .before .before .before .before .before .before .before .pre .few)
+
+slice-write-out : tie.Need-slice-write-out Inv-loop μ-loop
+slice-write-out c = omega (arith, c .before .before .before .before .place-of .ensures .1, c .before .before .before .before .before .before .before .loop .inv .same-out, c .before .before .before .before .before .before .before .before .before .before .pre .room)
+
+add-waiting : tie.Need-add-waiting Inv-loop μ-loop
+add-waiting c = omega (arith, opened (c .before .before .before .before .before .before) .waiting-low)
+
+add-k : tie.Need-add-k Inv-loop μ-loop
+add-k c = search needs
+
+loop-less : tie.Need-loop-less Inv-loop μ-loop
+loop-less c = search needs
+
+loop-again : tie.Need-loop-again Inv-loop μ-loop
+loop-again c = tables.next-turn (c .before .before .before .before .before .before .before .before .before .before .before .pre) (c .before .before .before .before .before .before .before .before .loop .inv) (c .before .before .before .before .before .before .before .loop-test .taken) (opened (c .before .before .before .before .before .before)) (c .before .before .before .before .before .place-of .ensures .0) (c .before .before .before .card-place .ensures) (c .before .before .next-cycle .ensures) (c .before .cycle-place2 .ensures)
+
+largest-requires : tie.Need-largest-requires Inv-loop μ-loop
+largest-requires c κs = search needs
+
+same-length : tie.Need-same-length Inv-loop μ-loop
+same-length c = c .before .before .before .loop .inv .same-out
+
+returns : tie.Need-returns Inv-loop μ-loop
+returns c = tables.passed (c .before .before .before .before .before .before .pre) (c .before .before .before .loop .inv) (c .before .before .loop-test .left) (c .largest .ensures)
+
+pub pass-spec : {M : Type 1} → statement M
+pass-spec =
+    tie.close
+    (tie.spec
+    Inv-loop
+    μ-loop
+    loop-holds
+    add-made
+    cycle-place-requires
+    mul-waiting
+    array-read-waiting
+    sub-waiting
+    place-of-requires
+    shared-slice-read-card-place
+    card-place-requires
+    mul-next-cycle
+    array-read-next-cycle
+    next-cycle-requires
+    cycle-place-requires-2
+    mul-latest
+    array-write-latest
+    mul-due
+    array-read-due
+    add-due
+    mul-due-2
+    array-write-due
+    mul-out
+    slice-write-out
+    add-waiting
+    add-k
+    loop-less
+    loop-again
+    largest-requires
+    same-length
+    returns)

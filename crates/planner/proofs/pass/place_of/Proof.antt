@@ -1,0 +1,21 @@
+use native.Mathlib.Omega.{arith}
+use borrow.Author.Needs.{needs}
+use Rattle.planner.proofs.pass.place_of.Statement.{statement}
+use Rattle.planner.proofs.pass.place_of.Tie as tie
+use Rattle.planner.proofs.pass.place_of.Reads as reads
+use Rattle.planner.proofs.pass.place_of.Lts as lts
+
+sub-result : tie.Need-sub-result
+sub-result c = search needs
+
+sub-result-2 : tie.Need-sub-result-2
+sub-result-2 c = search needs
+
+returns : tie.Need-returns
+returns c = (rw (c .if1 .taken) (omega arith), omega arith)
+
+returns-2 : tie.Need-returns-2
+returns-2 c = search needs
+
+pub place-of-spec : {M : Type 1} → statement M
+place-of-spec = tie.close (tie.spec sub-result sub-result-2 returns returns-2)

@@ -1,0 +1,55 @@
+use Rattle.planner.proofs.Answers.{ticket-refused, list-fits, list-read}
+use Rattle.planner.proofs.Main.{whole}
+use borrow.Author.Needs.{needs}
+use Rattle.planner.proofs.plan.Statement.{statement}
+use Rattle.planner.proofs.plan.Tie as tie
+use Rattle.planner.proofs.plan.Reads as reads
+use Rattle.planner.proofs.plan.Lts as lts
+use Rattle.planner.proofs.plan_list.Reads as plan-list-reads
+use Rattle.ticket.proofs.parse.Reads as parse-reads
+
+parse-requires : tie.Need-parse-requires
+parse-requires c κs = search needs
+
+enum-known-answer : tie.Need-enum-known-answer
+enum-known-answer c = search needs
+
+enum-known-answer-2 : tie.Need-enum-known-answer-2
+enum-known-answer-2 c = search needs
+
+slice-aggregate-plan-list : tie.Need-slice-aggregate-plan-list
+slice-aggregate-plan-list c = search needs
+
+plan-list-requires : tie.Need-plan-list-requires
+plan-list-requires c κs =
+    let p = c .before .before .before .before .before .before .parse in
+    let a = c .before .before .before .answer2 .given in
+    list-fits _ (p .result) (p .ensures) (a .0 .0) (a .1)
+
+returns : tie.Need-returns
+returns c =
+    let p = c .before .before .before .before .parse in
+    let a = c .before .answer .given in
+    whole _ _ _ _ (ticket-refused _ (p .result) (p .ensures) (a .0 .0) _ (a .1))
+
+same-length : tie.Need-same-length
+same-length c = search needs
+
+returns-2 : tie.Need-returns-2
+returns-2 c =
+    let p = c .before .before .before .before .before .before .before .before .before .parse in
+    let a = c .before .before .before .before .before .before .answer2 .given in
+    whole _ _ _ _ (rw (list-read _ (p .result) (p .ensures) (a .0 .0) (a .1)) (c .before .before .plan-list .ensures))
+
+pub plan-spec : {M : Type 1} → statement M
+plan-spec =
+    tie.close
+    (tie.spec
+    parse-requires
+    enum-known-answer
+    enum-known-answer-2
+    slice-aggregate-plan-list
+    plan-list-requires
+    returns
+    same-length
+    returns-2)

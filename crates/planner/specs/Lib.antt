@@ -1,0 +1,3 @@
+pub mod Plan
+pub mod Demand3
+pub mod Pass

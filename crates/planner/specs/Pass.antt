@@ -1,0 +1,51 @@
+-- What the functions behind `plan` ask for and leave.
+-- Assumes nothing.
+use Prim.Native.Nat.{ℕ, suc, _-_, _≤_, _<_}
+use mathlib.Core.Path.{_≡_}
+use mathlib.Core.Bool.{Bool, true, false}
+use mathlib.Core.List.{List, _++_, map, reverse}
+use lib.ListN.{length, getD, take, drop}
+use Rattle.schedule.specs.Schedule.{cardOf}
+use Rattle.schedule.specs.Greedy.{Plan, saveAndKeep, greedyWriting}
+use Rattle.header.specs.Limits.{maxCards, maxFrames}
+use Rattle.onepass.specs.AsOf.{asOf}
+use Rattle.planner.specs.Plan.{written}
+
+-- a list taken from its back, or from its front
+abbrev pub turned : Bool → List ℕ → List ℕ
+turned true l = reverse l
+turned false l = l
+
+-- where the element stands that is taken k-th
+abbrev pub place : Bool → ℕ → ℕ → ℕ
+place true n k = n - suc k
+place false n k = k
+
+-- f of the first n elements; the others as they are
+abbrev pub onFirst : (ℕ → ℕ) → ℕ → List ℕ → List ℕ
+onFirst f n l = map f (take n l) ++ drop n l
+
+-- a list within the limits, and a buffer with room for its plan
+pub record Asked (m : ℕ) (cards out : List ℕ) : Type 0 where
+  pub pool : 1 ≤ m
+  pub few : length cards ≤ maxFrames
+  pub each-card : (i : ℕ) → i < length cards → cardOf cards i < maxCards
+  pub room : length cards ≤ length out
+
+-- r is the largest of the first n elements
+pub record Largest (n : ℕ) (l : List ℕ) (r : ℕ) : Type 0 where
+  pub over : (c : ℕ) → c < n → getD l c 0 ≤ r
+  pub met : 1 ≤ r → (c : ℕ) × (getD l c 0 ≡ r)
+
+-- a plan is written over the front of `before`, and its T answered
+pub record Filled (plan : Plan) (before after : List ℕ) (T : ℕ) : Type 0 where
+  pub buffer : after ≡ written (plan .cycles) before
+  pub length-is : T ≡ plan .T
+
+-- a pass has written greedyWriting's cycles over the front of `before`; so many cycles are made when the last frame has entered, and in all
+pub record Passed (m : ℕ) (back : Bool) (cards before after : List ℕ) (made all : ℕ) : Type 0 where
+  pub filled : after ≡ written (turned back (greedyWriting m (turned back cards) .cycles)) before
+  pub all-is : all ≡ greedyWriting m (turned back cards) .T
+  pub all-few : all ≤ maxFrames
+  pub made-is : made ≡ saveAndKeep m (turned back cards) .T
+  pub kept : saveAndKeep m (turned back cards) .cycles ≡ map (asOf made) (greedyWriting m (turned back cards) .cycles)

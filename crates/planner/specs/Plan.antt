@@ -1,0 +1,48 @@
+-- What `plan` answers and what it leaves in the lent buffer, for every ticket and every buffer (document 01, "Rules from document 000" and
+-- "Grounds for turning a ticket or call down"). Edge case: a ticket with no frames has an empty plan with T = 0, in any buffer.
+-- Assumes nothing.
+use Prim.Native.Nat.{ℕ}
+use mathlib.Core.Path.{_≡_}
+use mathlib.Core.Bool.{cond}
+use mathlib.Core.List.{List, _++_}
+use lib.Dec.{eqb, ltb}
+use lib.ListN.{length, drop}
+use Rattle.schedule.specs.Greedy.{Plan, saveAndKeep, greedyWriting, lazyPrefetching}
+use Rattle.header.specs.Limits.{read, save}
+use Rattle.ticket.specs.Ticket.{Parsed, accepted, refused}
+use Rattle.planner.specs.declared.Answer.{Answer}
+use Rattle.planner.specs.declared.Answer.the-variants.{Planned, Refused}
+
+-- The numbers of an answer: the refusal, 0 for none, and T. "Beside a refusal's number, other numbers of the answer are 0".
+abbrev pub refusalIn : Answer → ℕ
+refusalIn (Planned T) = 0
+refusalIn (Refused k) = k
+
+abbrev pub lengthIn : Answer → ℕ
+lengthIn (Planned T) = T .0
+lengthIn (Refused k) = 0
+
+-- "Modes: 00 read; 01 save; 02 save and keep."
+abbrev pub planFor : ℕ → ℕ → List ℕ → Plan
+planFor mode m cards = cond (eqb mode read) (lazyPrefetching m cards) (cond (eqb mode save) (greedyWriting m cards) (saveAndKeep m cards))
+
+-- A plan written into a buffer: "A plan fills the first L places, and later places keep their content."
+abbrev pub written : List ℕ → List ℕ → List ℕ
+written cycles before = cycles ++ drop (length cycles) before
+
+-- "plan buffer has fewer than L places": 10, after the ticket's own
+unfoldable pub answerTo : Parsed → ℕ → Answer
+answerTo (accepted h cards) places =
+    cond (ltb places (length cards)) (Refused 10) (Planned (record { 0 = planFor (h .mode) (h .pool) cards .T }))
+answerTo (refused k) places = Refused k
+
+-- The buffer afterwards; unchanged by a refusal.
+unfoldable pub bufferAfter : Parsed → List ℕ → List ℕ
+bufferAfter (accepted h cards) before =
+    cond (ltb (length before) (length cards)) before (written (planFor (h .mode) (h .pool) cards .cycles) before)
+bufferAfter (refused k) before = before
+
+-- What one call did: the answer and the buffer, both equal to the definitions above.
+pub record Answered (ticket : Parsed) (before after : List ℕ) (r : Answer) : Type 0 where
+  pub answer : r ≡ answerTo ticket (length before)
+  pub buffer : after ≡ bufferAfter ticket before

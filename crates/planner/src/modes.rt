@@ -1,0 +1,81 @@
+// The plans of the three modes, each from one pass.
+ghost use mathlib.Core.Path.{_≡_};
+ghost use Prim.Native.Nat.{ℕ, _+_, _-_, _≤_, _<_};
+ghost use lib.ListN.{length, getD};
+ghost use Rattle.schedule.specs.Greedy.{greedyWriting, saveAndKeep, lazyPrefetching};
+ghost use Rattle.onepass.specs.AsOf.{asOf};
+ghost use Rattle.planner.specs.Pass.{Asked, onFirst, Filled};
+ghost use Rattle.planner.specs.Plan.{planFor};
+use crate::pass;
+use header::limits;
+
+// Cycle c of a schedule of t cycles becomes t − c + 1, at the first n places.
+fn turn_round(out: &mut [u16], n: usize, t: u16)
+    requires { ⌜ (n ≤ length (now out)) × (t ≤ 4096) × ((i : ℕ) → i < n → getD (now out) i 0 ≤ t) ⌝ }
+    ensures { λ r. ⌜ now (out .exit) ≡ onFirst (λ c. t - c + 1) n (now (out .entry)) ⌝ }
+{
+    let mut i: usize = 0;
+    while i < n {
+        out[i] = t - out[i] + 1;
+        i += 1;
+    }
+}
+
+// A cycle as save and keep shows it: 0 where it is not made, since the frame then stays in the pool.
+fn as_of(made: u16, cycle: u16) -> u16
+    ensures { λ r. ⌜ r ≡ asOf made cycle ⌝ }
+{
+    if cycle <= made { cycle } else { 0 }
+}
+
+// Takes back the cycles that are not made, at the first n places.
+fn keep(out: &mut [u16], n: usize, made: u16)
+    requires { ⌜ n ≤ length (now out) ⌝ }
+    ensures { λ r. ⌜ now (out .exit) ≡ onFirst (asOf made) n (now (out .entry)) ⌝ }
+{
+    let mut i: usize = 0;
+    while i < n {
+        out[i] = as_of(made, out[i]);
+        i += 1;
+    }
+}
+
+fn read_plan(cards: &[u8], m: u16, out: &mut [u16]) -> u16
+    requires { ⌜ Asked m (now cards) (now out) ⌝ }
+    ensures { λ r. ⌜ Filled (lazyPrefetching m (now (cards .entry))) (now (out .entry)) (now (out .exit)) r ⌝ }
+{
+    let cycles = pass::pass(cards, m, true, out);
+    turn_round(out, cards.len(), cycles.all);
+    cycles.all
+}
+
+fn save_plan(cards: &[u8], m: u16, out: &mut [u16]) -> u16
+    requires { ⌜ Asked m (now cards) (now out) ⌝ }
+    ensures { λ r. ⌜ Filled (greedyWriting m (now (cards .entry))) (now (out .entry)) (now (out .exit)) r ⌝ }
+{
+    let cycles = pass::pass(cards, m, false, out);
+    cycles.all
+}
+
+fn keep_plan(cards: &[u8], m: u16, out: &mut [u16]) -> u16
+    requires { ⌜ Asked m (now cards) (now out) ⌝ }
+    ensures { λ r. ⌜ Filled (saveAndKeep m (now (cards .entry))) (now (out .entry)) (now (out .exit)) r ⌝ }
+{
+    let cycles = pass::pass(cards, m, false, out);
+    keep(out, cards.len(), cycles.made);
+    cycles.made
+}
+
+// Fills the first places with the plan of the list, and answers T.
+pub(crate) fn fill(mode: u8, cards: &[u8], m: u16, out: &mut [u16]) -> u16
+    requires { ⌜ Asked m (now cards) (now out) ⌝ }
+    ensures { λ r. ⌜ Filled (planFor mode m (now (cards .entry))) (now (out .entry)) (now (out .exit)) r ⌝ }
+{
+    if mode == limits::READ {
+        return read_plan(cards, m, out);
+    }
+    if mode == limits::SAVE {
+        return save_plan(cards, m, out);
+    }
+    keep_plan(cards, m, out)
+}

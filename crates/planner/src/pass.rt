@@ -1,0 +1,89 @@
+// greedyWriting in one pass over the list: a frame's cycle is known when the frame enters.
+ghost use mathlib.Core.Path.{_≡_};
+ghost use Prim.Native.Nat.{_+_, _≤_, _<_, max};
+ghost use Rattle.planner.specs.Pass.{place, Asked, Largest, Passed};
+
+fn cycle_place(cycle: u16) -> usize
+    ensures { λ r. ⌜ r ≡ cycle ⌝ }
+{
+    cycle as usize
+}
+
+fn card_place(card: u8) -> usize
+    ensures { λ r. ⌜ r ≡ card ⌝ }
+{
+    card as usize
+}
+
+// The cycle of a frame that enters: the first that its card has free, after the cycles made.
+fn next_cycle(latest: u16, made: u16) -> u16
+    requires { ⌜ (latest ≤ 4096) × (made ≤ 4096) ⌝ }
+    ensures { λ r. ⌜ r ≡ max latest made + 1 ⌝ }
+{
+    if latest < made { made + 1 } else { latest + 1 }
+}
+
+// Where the frame stands that is taken k-th, from the front or from the back of a list of n.
+fn place_of(back: bool, n: usize, k: usize) -> usize
+    requires { ⌜ k < n ⌝ }
+    ensures { λ r. ⌜ (r ≡ place back n k) × (r < n) ⌝ }
+{
+    if back { n - 1 - k } else { k }
+}
+
+// The largest of the cards' latest cycles.
+fn largest(latest: &[u16; 32]) -> u16
+    ensures { λ r. ⌜ Largest 32 (now (latest .entry)) r ⌝ }
+{
+    let mut top: u16 = 0;
+    let mut c: usize = 0;
+    while c < 32 {
+        let l = latest[c];
+        c += 1;
+        if top < l {
+            top = l;
+        }
+    }
+    top
+}
+
+// The cycles made when the last frame has entered, and with the closing cycles.
+pub(crate) struct Cycles {
+    pub(crate) made: u16,
+    pub(crate) all: u16,
+}
+
+// Gives each frame of the list, taken from its front or from its back, its cycle of greedyWriting.
+//   due[s]     how many frames have cycle s
+//   latest[c]  the cycle of the frame of card c that entered last, 0 for none
+//   waiting    how many frames wait in the pool, with `made` cycles made
+pub(crate) fn pass(cards: &[u8], m: u16, back: bool, out: &mut [u16]) -> Cycles
+    requires { ⌜ Asked m (now cards) (now out) ⌝ }
+    ensures { λ r. ⌜ Passed m back (now (cards .entry)) (now (out .entry)) (now (out .exit)) (r .made) (r .all) ⌝ }
+{
+    let mut due = [0u16; 4097];
+    let mut latest = [0u16; 32];
+    let mut made: u16 = 0;
+    let mut waiting: u16 = 0;
+    let n = cards.len();
+    let mut k: usize = 0;
+    while k < n {
+        if m <= waiting {
+            made += 1;
+            waiting -= due[cycle_place(made)];
+        }
+        let i = place_of(back, n, k);
+        let c = card_place(cards[i]);
+        let s = next_cycle(latest[c], made);
+        let u = cycle_place(s);
+        latest[c] = s;
+        due[u] = due[u] + 1;
+        out[i] = s;
+        waiting += 1;
+        k += 1;
+    }
+    Cycles {
+        made: made,
+        all: largest(&latest),
+    }
+}
