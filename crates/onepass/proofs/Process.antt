@@ -1,7 +1,7 @@
 -- greedyWriting in one pass. The tables of the pass (each frame's cycle, each card's latest, how many are due in each cycle, the cycles made
 -- and the frames that wait) follow the published process frame by frame, and at the end of the list hold its plan.
 -- Assumes nothing.
-use Prim.Native.Nat.{ℕ, zero, suc, _+_, _-_, _≤_, _<_, max, zero-le}
+use Prim.Native.Nat.{ℕ, suc, _+_, _-_, _≤_, _<_, max, zero-le}
 use mathlib.Core.Path.{_≡_, refl, sym, ap, _∙_}
 use mathlib.Core.Bool.{cond}
 use mathlib.Core.List.{List, map}

@@ -2,7 +2,7 @@
 -- Assumes nothing.
 use Prim.Native.Nat.{ℕ, _-_, _≤_, _<_}
 use mathlib.Core.Path.{_≡_, refl, ap, _∙_}
-use mathlib.Core.List.{List, _++_}
+use mathlib.Core.List.{List}
 use native.Mathlib.Omega.{arith}
 use lib.ListN.{length, take}
 use lib.Seq.{take-at}
@@ -10,7 +10,7 @@ use borrow.Author.Tests.{lt-ltb, le-ltb}
 use Rattle.header.specs.Limits.{maxFrames}
 use Rattle.header.specs.declared.Header.{Header}
 use Rattle.header.specs.declared.Answer.the-variants.{Accepted, Refused as RefusedTicket}
-use Rattle.ticket.specs.Ticket.{accepted, refused, parse, ticketOf, zeros}
+use Rattle.ticket.specs.Ticket.{accepted, parse, ticketOf, zeros}
 use Rattle.ticket.specs.Grounds.{Fits}
 use Rattle.ticket.specs.declared.Ticket.{Ticket}
 use Rattle.ticket.proofs.Answers.{was-refused, shown}

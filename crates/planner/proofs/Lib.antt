@@ -1,4 +1,6 @@
 pub mod Main
+pub mod Cases
+pub mod Demand
 pub mod Answers
 pub mod Plans
 pub mod Tables

@@ -1,20 +1,20 @@
 -- From one pass to the plan of each mode.
 -- Assumes nothing.
 use Prim.Native.Nat.{ℕ, suc, _+_, _-_, _≤_, _<_}
-use mathlib.Core.Path.{_≡_, refl, sym, ap, _∙_}
+use mathlib.Core.Path.{_≡_, _∙_}
 use mathlib.Core.Bool.{true, false}
 use mathlib.Core.List.{List, map, reverse}
 use native.Mathlib.Omega.{arith}
-use lib.ListN.{length, getD, drop, length-append, length-map, length-drop, length-reverse, List·getD-append}
+use lib.ListN.{length, getD, drop, length-append, length-map, length-reverse, List·getD-append}
 use borrow.Author.Tests.{eq-eqb, ne-eqb}
 use lib.Seq.{take-at, drop-at}
 use Rattle.schedule.specs.Greedy.{saveAndKeep, greedyWriting, lazyPrefetching}
 use Rattle.schedule.proofs.Lists.{le-largest, reverse-getD, map-reverse}
 use Rattle.schedule.proofs.Main.{save-correct, save-length}
-use Rattle.header.specs.Limits.{maxFrames, read, save}
+use Rattle.header.specs.Limits.{read, save}
 use Rattle.onepass.specs.AsOf.{asOf}
 use Rattle.planner.specs.Plan.{planFor, written}
-use Rattle.planner.specs.Pass.{turned, onFirst, Asked, Passed, Filled}
+use Rattle.planner.specs.Pass.{onFirst, Asked, Passed, Filled}
 
 -- the elements written are replaced by f of them
 onFirst-written : (f : ℕ → ℕ) (n : ℕ) (l before : List ℕ) → length l ≡ n → onFirst f n (written l before) ≡ written (map f l) before

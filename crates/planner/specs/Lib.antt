@@ -1,3 +1,4 @@
 pub mod Plan
 pub mod Demand3
 pub mod Pass
+pub mod Cases

@@ -44,26 +44,26 @@ fn read_plan(cards: &[u8], m: u16, out: &mut [u16]) -> u16
     requires { ⌜ Asked m (now cards) (now out) ⌝ }
     ensures { λ r. ⌜ Filled (lazyPrefetching m (now (cards .entry))) (now (out .entry)) (now (out .exit)) r ⌝ }
 {
-    let cycles = pass::pass(cards, m, true, out);
-    turn_round(out, cards.len(), cycles.all);
-    cycles.all
+    let turned = pass::pass(cards, m, true, out);
+    turn_round(out, cards.len(), turned.all);
+    turned.all
 }
 
 fn save_plan(cards: &[u8], m: u16, out: &mut [u16]) -> u16
     requires { ⌜ Asked m (now cards) (now out) ⌝ }
     ensures { λ r. ⌜ Filled (greedyWriting m (now (cards .entry))) (now (out .entry)) (now (out .exit)) r ⌝ }
 {
-    let cycles = pass::pass(cards, m, false, out);
-    cycles.all
+    let saved = pass::pass(cards, m, false, out);
+    saved.all
 }
 
 fn keep_plan(cards: &[u8], m: u16, out: &mut [u16]) -> u16
     requires { ⌜ Asked m (now cards) (now out) ⌝ }
     ensures { λ r. ⌜ Filled (saveAndKeep m (now (cards .entry))) (now (out .entry)) (now (out .exit)) r ⌝ }
 {
-    let cycles = pass::pass(cards, m, false, out);
-    keep(out, cards.len(), cycles.made);
-    cycles.made
+    let kept = pass::pass(cards, m, false, out);
+    keep(out, cards.len(), kept.made);
+    kept.made
 }
 
 // Fills the first places with the plan of the list, and answers T.

@@ -1,12 +1,10 @@
+-- `planner::plan` meets its contract.
+-- Assumes nothing.
 use Rattle.planner.proofs.Answers.{ticket-refused, list-fits, list-read}
-use Rattle.planner.proofs.Main.{whole}
+use Rattle.planner.proofs.Demand.{contract}
 use borrow.Author.Needs.{needs}
 use Rattle.planner.proofs.plan.Statement.{statement}
 use Rattle.planner.proofs.plan.Tie as tie
-use Rattle.planner.proofs.plan.Reads as reads
-use Rattle.planner.proofs.plan.Lts as lts
-use Rattle.planner.proofs.plan_list.Reads as plan-list-reads
-use Rattle.ticket.proofs.parse.Reads as parse-reads
 
 parse-requires : tie.Need-parse-requires
 parse-requires c κs = search needs
@@ -30,7 +28,7 @@ returns : tie.Need-returns
 returns c =
     let p = c .before .before .before .before .parse in
     let a = c .before .answer .given in
-    whole _ _ _ _ (ticket-refused _ (p .result) (p .ensures) (a .0 .0) _ (a .1))
+    contract _ _ _ _ (ticket-refused _ (p .result) (p .ensures) (a .0 .0) _ (a .1))
 
 same-length : tie.Need-same-length
 same-length c = search needs
@@ -39,7 +37,7 @@ returns-2 : tie.Need-returns-2
 returns-2 c =
     let p = c .before .before .before .before .before .before .before .before .before .parse in
     let a = c .before .before .before .before .before .before .answer2 .given in
-    whole _ _ _ _ (rw (list-read _ (p .result) (p .ensures) (a .0 .0) (a .1)) (c .before .before .plan-list .ensures))
+    contract _ _ _ _ (rw (list-read _ (p .result) (p .ensures) (a .0 .0) (a .1)) (c .before .before .plan-list .ensures))
 
 pub plan-spec : {M : Type 1} → statement M
 plan-spec =

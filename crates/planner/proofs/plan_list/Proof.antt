@@ -1,10 +1,9 @@
+-- `planner::plan_list` meets its contract.
+-- Assumes nothing.
 use Rattle.planner.proofs.Answers.{too-small, asked, planned}
 use borrow.Author.Needs.{needs}
 use Rattle.planner.proofs.plan_list.Statement.{statement}
 use Rattle.planner.proofs.plan_list.Tie as tie
-use Rattle.planner.proofs.plan_list.Reads as reads
-use Rattle.planner.proofs.plan_list.Lts as lts
-use Rattle.planner.proofs.modes.fill.Reads as fill-reads
 
 cast-n : tie.Need-cast-n
 cast-n c = search needs

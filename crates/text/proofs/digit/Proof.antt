@@ -1,3 +1,5 @@
+-- `text::digit` meets its contract.
+-- Assumes nothing.
 use Rattle.text.proofs.Digits.{value-of}
 use mathlib.Core.Path.{refl}
 use native.Mathlib.Omega.{arith}

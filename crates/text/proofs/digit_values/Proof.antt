@@ -1,3 +1,5 @@
+-- `text::digit_values` meets its contract.
+-- Assumes nothing.
 use mathlib.Core.Path.{refl}
 use Rattle.text.specs.Text.{digitValues, digit}
 use borrow.Author.Needs.{needs}

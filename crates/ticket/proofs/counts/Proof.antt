@@ -1,3 +1,5 @@
+-- `ticket::counts` meets its contract.
+-- Assumes nothing.
 use mathlib.Core.Path.{_∙_}
 use Rattle.ticket.proofs.Answers.{counts-refused, counts-asked, counts-given}
 use borrow.Author.Needs.{needs}

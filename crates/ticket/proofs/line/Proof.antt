@@ -1,3 +1,5 @@
+-- `ticket::line` meets its contract.
+-- Assumes nothing.
 use mathlib.Core.Path.{_≡_, _∙_}
 use native.Mathlib.Omega.{arith}
 use Rattle.ticket.proofs.Answers.{no-line, line-fits, the-line}

@@ -1,3 +1,5 @@
+-- `ticket::line_refusal` meets its contract.
+-- Assumes nothing.
 use native.Mathlib.Omega.{arith}
 use Rattle.ticket.proofs.Answers.{number-refused, below, not-below}
 use borrow.Author.Needs.{needs}

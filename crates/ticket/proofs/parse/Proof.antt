@@ -1,3 +1,5 @@
+-- `ticket::parse` meets its contract.
+-- Assumes nothing.
 use mathlib.Core.Path.{sym, ap, _∙_}
 use Rattle.ticket.specs.Ticket.{ticketOf}
 use Rattle.ticket.proofs.Reader.{header-refused}

@@ -1,3 +1,5 @@
+-- `ticket::read_part` meets its contract.
+-- Assumes nothing.
 use mathlib.Core.Path.{_≡_, sym, ap, _∙_}
 use native.Mathlib.Omega.{arith}
 use Rattle.ticket.specs.Ticket.{ticketOf}

@@ -1,3 +1,5 @@
+-- `ticket::refusal` meets its contract.
+-- Assumes nothing.
 use mathlib.Core.Path.{sym, ap}
 use Rattle.ticket.specs.Ticket.{refusalOf}
 use Rattle.ticket.proofs.Answers.{was-refused, was-accepted}

@@ -1,3 +1,5 @@
+-- `ticket::refused` meets its contract.
+-- Assumes nothing.
 use Rattle.ticket.specs.Ticket.{zeros}
 use mathlib.Core.Path.{refl}
 use Rattle.ticket.proofs.refused.Statement.{statement}

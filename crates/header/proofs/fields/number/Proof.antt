@@ -1,3 +1,5 @@
+-- `header::fields::number` meets its contract.
+-- Assumes nothing.
 use Rattle.text.specs.Text.{number}
 use Rattle.text.proofs.Digits.{number-on, number-fits, number-lt}
 use denote.Ref.{now}

@@ -1,9 +1,8 @@
-use mathlib.Core.Path.{sym}
+-- `planner::modes::as_of` meets its contract.
+-- Assumes nothing.
 use borrow.Author.Tests.{le-leb, lt-leb}
 use Rattle.planner.proofs.modes.as_of.Statement.{statement}
 use Rattle.planner.proofs.modes.as_of.Tie as tie
-use Rattle.planner.proofs.modes.as_of.Reads as reads
-use Rattle.planner.proofs.modes.as_of.Lts as lts
 
 returns : tie.Need-returns
 returns c = rw (le-leb _ _ (c .if1 .taken))

@@ -1,12 +1,9 @@
+-- `planner::modes::fill` meets its contract.
+-- Assumes nothing.
 use Rattle.planner.proofs.Plans.{plan-read, plan-save, plan-keep}
 use borrow.Author.Needs.{needs}
 use Rattle.planner.proofs.modes.fill.Statement.{statement}
 use Rattle.planner.proofs.modes.fill.Tie as tie
-use Rattle.planner.proofs.modes.fill.Reads as reads
-use Rattle.planner.proofs.modes.fill.Lts as lts
-use Rattle.planner.proofs.modes.keep_plan.Reads as keep-plan-reads
-use Rattle.planner.proofs.modes.read_plan.Reads as read-plan-reads
-use Rattle.planner.proofs.modes.save_plan.Reads as save-plan-reads
 
 read-plan-requires : tie.Need-read-plan-requires
 read-plan-requires c κs = search needs

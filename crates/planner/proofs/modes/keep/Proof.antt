@@ -1,3 +1,5 @@
+-- `planner::modes::keep` meets its contract.
+-- Assumes nothing.
 use Prim.Native.Nat.{_≤_, _-_}
 use mathlib.Core.Path.{_≡_}
 use native.Mathlib.Omega.{arith}
@@ -6,9 +8,6 @@ use Rattle.planner.proofs.Firsts.{Replaced, replaced-none, replaced-len
 use borrow.Author.Needs.{needs}
 use Rattle.planner.proofs.modes.keep.Statement.{statement}
 use Rattle.planner.proofs.modes.keep.Tie as tie
-use Rattle.planner.proofs.modes.keep.Reads as reads
-use Rattle.planner.proofs.modes.keep.Lts as lts
-use Rattle.planner.proofs.modes.as_of.Reads as as-of-reads
 
 abbrev Inv-loop : tie.InvT-loop
 Inv-loop out₀ n made i₀ out i = (i ≤ n) × Replaced (asOf made) i out₀ out

@@ -1,11 +1,9 @@
+-- `planner::modes::keep_plan` meets its contract.
+-- Assumes nothing.
 use Rattle.planner.proofs.Plans.{kept}
 use borrow.Author.Needs.{needs}
 use Rattle.planner.proofs.modes.keep_plan.Statement.{statement}
 use Rattle.planner.proofs.modes.keep_plan.Tie as tie
-use Rattle.planner.proofs.modes.keep_plan.Reads as reads
-use Rattle.planner.proofs.modes.keep_plan.Lts as lts
-use Rattle.planner.proofs.modes.keep.Reads as keep-reads
-use Rattle.planner.proofs.pass.pass.Reads as pass-reads
 
 pass-requires : tie.Need-pass-requires
 pass-requires c κs = search needs

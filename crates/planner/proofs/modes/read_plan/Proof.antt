@@ -1,11 +1,9 @@
+-- `planner::modes::read_plan` meets its contract.
+-- Assumes nothing.
 use Rattle.planner.proofs.Plans.{cycles-le, room, turned-round}
 use borrow.Author.Needs.{needs}
 use Rattle.planner.proofs.modes.read_plan.Statement.{statement}
 use Rattle.planner.proofs.modes.read_plan.Tie as tie
-use Rattle.planner.proofs.modes.read_plan.Reads as reads
-use Rattle.planner.proofs.modes.read_plan.Lts as lts
-use Rattle.planner.proofs.modes.turn_round.Reads as turn-round-reads
-use Rattle.planner.proofs.pass.pass.Reads as pass-reads
 
 pass-requires : tie.Need-pass-requires
 pass-requires c κs = search needs

@@ -1,3 +1,5 @@
+-- `planner::modes::turn_round` meets its contract.
+-- Assumes nothing.
 use Prim.Native.Nat.{_≤_, _-_, _+_}
 use mathlib.Core.Path.{_≡_, refl}
 use native.Mathlib.Omega.{arith}
@@ -5,8 +7,6 @@ use Rattle.planner.proofs.Firsts.{Replaced, replaced-none, replaced-len
 use borrow.Author.Needs.{needs}
 use Rattle.planner.proofs.modes.turn_round.Statement.{statement}
 use Rattle.planner.proofs.modes.turn_round.Tie as tie
-use Rattle.planner.proofs.modes.turn_round.Reads as reads
-use Rattle.planner.proofs.modes.turn_round.Lts as lts
 
 abbrev Inv-loop : tie.InvT-loop
 Inv-loop out₀ n t i₀ out i = (i ≤ n) × Replaced (λ c. t - c + 1) i out₀ out

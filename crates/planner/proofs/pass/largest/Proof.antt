@@ -1,3 +1,5 @@
+-- `planner::pass::largest` meets its contract.
+-- Assumes nothing.
 use Prim.Native.Nat.{_≤_, _-_}
 use mathlib.Core.Path.{_≡_}
 use native.Mathlib.Omega.{arith}
@@ -6,8 +8,6 @@ use Rattle.planner.proofs.Latest.{largest-none, largest-same, largest-n
 use borrow.Author.Needs.{needs}
 use Rattle.planner.proofs.pass.largest.Statement.{statement}
 use Rattle.planner.proofs.pass.largest.Tie as tie
-use Rattle.planner.proofs.pass.largest.Reads as reads
-use Rattle.planner.proofs.pass.largest.Lts as lts
 
 abbrev Inv-loop : tie.InvT-loop
 Inv-loop latest top₀ c₀ top c = (c ≤ 32) × Largest c latest top

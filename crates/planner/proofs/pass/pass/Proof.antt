@@ -1,3 +1,5 @@
+-- `planner::pass::pass` meets its contract. The loop's invariant is `Turn` of proofs/Tables.antt; each turn is one frame of the list.
+-- Assumes nothing.
 use Prim.Native.Nat.{_≤_, _<_, _-_}
 use mathlib.Core.Logic.{⊎-elim}
 use native.Mathlib.Omega.{arith}
@@ -7,13 +9,6 @@ use Rattle.planner.proofs.Tables as tables
 use borrow.Author.Needs.{needs}
 use Rattle.planner.proofs.pass.pass.Statement.{statement}
 use Rattle.planner.proofs.pass.pass.Tie as tie
-use Rattle.planner.proofs.pass.pass.Reads as reads
-use Rattle.planner.proofs.pass.pass.Lts as lts
-use Rattle.planner.proofs.pass.card_place.Reads as card-place-reads
-use Rattle.planner.proofs.pass.cycle_place.Reads as cycle-place-reads
-use Rattle.planner.proofs.pass.largest.Reads as largest-reads
-use Rattle.planner.proofs.pass.next_cycle.Reads as next-cycle-reads
-use Rattle.planner.proofs.pass.place_of.Reads as place-of-reads
 
 abbrev Inv-loop : tie.InvT-loop
 Inv-loop cards m back out₀ due₀ latest₀ made₀ waiting₀ n k₀ out due latest made waiting k = Turn m back cards out₀ out due latest made waiting k

@@ -1,9 +1,9 @@
+-- `planner::pass::place_of` meets its contract.
+-- Assumes nothing.
 use native.Mathlib.Omega.{arith}
 use borrow.Author.Needs.{needs}
 use Rattle.planner.proofs.pass.place_of.Statement.{statement}
 use Rattle.planner.proofs.pass.place_of.Tie as tie
-use Rattle.planner.proofs.pass.place_of.Reads as reads
-use Rattle.planner.proofs.pass.place_of.Lts as lts
 
 sub-result : tie.Need-sub-result
 sub-result c = search needs

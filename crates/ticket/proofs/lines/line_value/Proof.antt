@@ -1,3 +1,5 @@
+-- `ticket::lines::line_value` meets its contract.
+-- Assumes nothing.
 use native.Mathlib.Omega.{arith}
 use Rattle.text.proofs.Digits.{too-short}
 use Rattle.ticket.proofs.Faults.{no-line, high-not, low-not, no-end, line-number}

@@ -1,3 +1,5 @@
+-- `ticket::lines::read_lines` meets its contract.
+-- Assumes nothing.
 use Prim.Native.Nat.{_*_, _-_, _≤_, _<_}
 use mathlib.Core.Path.{_≡_, refl, sym}
 use mathlib.Core.List.{_++_}

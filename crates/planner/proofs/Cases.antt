@@ -1,0 +1,17 @@
+-- The table of specs/Cases.antt, proved by computing.
+-- Assumes nothing.
+use mathlib.Core.Path.{_≡_, refl}
+use mathlib.Core.List.{map}
+use Rattle.schedule.specs.Greedy.{saveAndKeep, greedyWriting, lazyPrefetching}
+use Rattle.schedule.specs.Cases.{expected, cases}
+use Rattle.text.specs.Text.{digit, digits, number, isLine}
+use Rattle.text.specs.Hex.{digitOf, hex}
+use Rattle.header.specs.Heading.{headerOf, judge, heading}
+use Rattle.ticket.specs.Ticket.{cardAt, lineFault, linesFault, partFault, parse, zeros}
+use Rattle.ticket.specs.Print.{lineTexts, ticketText}
+use Rattle.planner.specs.Plan.{answerTo, bufferAfter}
+use Rattle.planner.specs.Cases.{asked}
+
+pub plans-hold : map asked cases ≡ map expected cases
+unfolding saveAndKeep greedyWriting lazyPrefetching digit digits number isLine digitOf hex headerOf judge heading cardAt lineFault linesFault partFault parse zeros lineTexts ticketText answerTo bufferAfter
+plans-hold = refl

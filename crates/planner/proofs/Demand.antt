@@ -1,0 +1,70 @@
+-- Demand 3 about a call of `plan`, from its answer and the buffer that it leaves.
+-- Assumes nothing.
+use Prim.Native.Nat.{ℕ, _≤_}
+use mathlib.Core.Path.{_≡_, refl, ap}
+use mathlib.Core.Bool.{false}
+use mathlib.Core.List.{List}
+use native.Mathlib.Omega.{arith}
+use lib.Dec.{ltb}
+use lib.ListN.{length, take, drop}
+use lib.Seq.{take-at}
+use borrow.Author.Tests.{ltb-true}
+use Rattle.schedule.specs.Greedy.{Plan}
+use Rattle.schedule.specs.Demand.{SaveDemand, ReadDemand}
+use Rattle.schedule.proofs.Bits.{by-cases}
+use Rattle.schedule.proofs.Main.{save-correct, read-correct, save-demand, read-demand}
+use Rattle.header.specs.declared.Header.{Header}
+use Rattle.ticket.specs.Ticket.{accepted, parse}
+use Rattle.ticket.proofs.Main.{accepted-fits}
+use Rattle.planner.specs.Plan.{refusalIn, lengthIn, planFor, answerTo, bufferAfter, Answered}
+use Rattle.planner.specs.Demand3.{Demand3}
+use Rattle.planner.specs.declared.Answer.{Answer}
+use Rattle.planner.proofs.Plans.{plan-read, plan-save}
+
+-- an accepted ticket, and a buffer with room
+module _ (h : Header) (cards before after : List ℕ) (r : Answer) (a : Answered (accepted h cards) before after r) (room : length cards ≤ length after) where
+  abbrev plan : Plan
+  plan = planFor (h .mode) (h .pool) cards
+
+  has-room : ltb (length before) (length cards) ≡ false
+  unfolding bufferAfter
+  has-room =
+      by-cases (ltb (length before) (length cards))
+      (λ e. let b : after ≡ before = rw e at (a .buffer) in absurd (omega (arith, ltb-true (length before) (length cards) e, ap length b)))
+      (λ e. e)
+
+  answers-T : (refusalIn r ≡ 0) × (lengthIn r ≡ plan .T)
+  unfolding answerTo
+  answers-T = rw (a .answer, has-room) (refl, refl)
+
+  holds-plan : length (plan .cycles) ≡ length cards → take (length cards) after ≡ plan .cycles
+  unfolding bufferAfter
+  holds-plan e = rw (a .buffer, has-room) (take-at (plan .cycles) (drop (length (plan .cycles)) before) (length cards) e)
+
+  -- what is true of the plan is true of the buffer's front and of the T answered
+  pub so-of-call :
+      (P : List ℕ → ℕ → Type 0) → length (plan .cycles) ≡ length cards → P (plan .cycles) (plan .T)
+      → (refusalIn r ≡ 0) × P (take (length cards) after) (lengthIn r)
+  so-of-call P e p = (answers-T .0, rw (answers-T .1, holds-plan e) p)
+
+module _ (t before after : List ℕ) (r : Answer) (a : Answered (parse t) before after r) where
+  pub demand-3 : Demand3 t r after
+  demand-3 =
+      record {
+        read-plan = λ h cards e mode room.
+            let p = plan-read (h .mode) (h .pool) cards mode in
+            let pool = accepted-fits t h cards e .pool .0 in
+            so-of-call h cards before after r (rw e at a) room (ReadDemand (h .pool) cards)
+            (rw p (read-correct (h .pool) cards pool .one-each))
+            (rw p (read-demand (h .pool) cards pool));
+        save-plan = λ h cards e mode room.
+            let p = plan-save (h .mode) (h .pool) cards mode in
+            let pool = accepted-fits t h cards e .pool .0 in
+            so-of-call h cards before after r (rw e at a) room (SaveDemand (h .pool) cards)
+            (rw p (save-correct (h .pool) cards pool .one-each))
+            (rw p (save-demand (h .pool) cards pool));
+      }
+
+  -- the whole contract of `plan`
+  pub contract : (r ≡ answerTo (parse t) (length before)) × ((after ≡ bufferAfter (parse t) before) × Demand3 t r after)
+  contract = (a .answer, (a .buffer, demand-3))

@@ -1,0 +1,18 @@
+-- `planner::modes::save_plan` meets its contract.
+-- Assumes nothing.
+use Rattle.planner.proofs.Plans.{saved}
+use borrow.Author.Needs.{needs}
+use Rattle.planner.proofs.modes.save_plan.Statement.{statement}
+use Rattle.planner.proofs.modes.save_plan.Tie as tie
+
+pass-requires : tie.Need-pass-requires
+pass-requires c κs = search needs
+
+same-length : tie.Need-same-length
+same-length c = search needs
+
+returns : tie.Need-returns
+returns c = saved (c .before .before .before .before .before .before .pre) (c .before .before .pass .ensures)
+
+pub save-plan-spec : {M : Type 1} → statement M
+save-plan-spec = tie.close (tie.spec pass-requires same-length returns)

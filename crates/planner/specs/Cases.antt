@@ -1,0 +1,36 @@
+-- The plans of the table of cases (crates/schedule/specs/Cases.antt: the starred plans of document 01, and a list on which a well-known
+-- library takes a cycle more), asked for by tickets: what `plan` answers and leaves. proofs/Cases.antt proves them by computing.
+-- Assumes nothing.
+use Prim.Native.Nat.{ℕ}
+use mathlib.Core.Bool.{cond}
+use mathlib.Core.List.{List}
+use lib.Dec.{eqb}
+use lib.ListN.{length}
+use Rattle.schedule.specs.Cases.{Answer, Case, _gives_, plan, readPlan, savePlan, keepPlan, drive, peakOf, most}
+use Rattle.header.specs.Limits.{edition1, read, save, saveAndKeep, maxCards}
+use Rattle.ticket.specs.Ticket.{Parsed, parse, zeros}
+use Rattle.ticket.specs.Print.{ticketText}
+use Rattle.planner.specs.Plan.{refusalIn, lengthIn, answerTo, bufferAfter}
+
+-- a ticket that asks for a plan
+abbrev pub ticketFor : ℕ → ℕ → List ℕ → List ℕ
+ticketFor mode m cards =
+    ticketText (record { edition = edition1; mode = mode; cards = maxCards; pool = m; frames = length cards }) cards
+
+-- the buffer and T after a call; a refusal is none of the table's answers
+abbrev afterCall : Parsed → List ℕ → Answer
+afterCall p buffer =
+    cond (eqb (refusalIn (answerTo p (length buffer))) 0)
+    (plan (bufferAfter p buffer) (lengthIn (answerTo p (length buffer))))
+    (most (refusalIn (answerTo p (length buffer))))
+
+abbrev ask : ℕ → ℕ → List ℕ → Answer
+ask mode m cards = afterCall (parse (ticketFor mode m cards)) (zeros (length cards))
+
+-- a plan of the table, asked for; the other cases are not about plans
+abbrev pub asked : Case → Answer
+asked (readPlan m cards gives a) = ask read m cards
+asked (savePlan m cards gives a) = ask save m cards
+asked (keepPlan m cards gives a) = ask saveAndKeep m cards
+asked (drive m cards steps gives a) = a
+asked (peakOf m cards steps gives a) = a
