@@ -6,4 +6,3 @@ pub mod Plans
 pub mod Tables
 pub mod Turned
 pub mod Firsts
-pub mod Latest

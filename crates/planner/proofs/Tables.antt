@@ -5,17 +5,18 @@ use mathlib.Core.Path.{_≡_, refl, sym, ap, _∙_}
 use mathlib.Core.Bool.{Bool}
 use mathlib.Core.List.{List}
 use native.Mathlib.Omega.{arith}
-use native.Mathlib.Decide.{decLt}
 use native.Mathlib.Numerals.{add-one}
-use lib.ListN.{length, getD, take, drop, set, replicate, length-replicate, length-set, take-append-drop, List·getD-eq-default}
+use lib.ListN.{length, getD, take, drop, set, replicate, length-replicate, length-set, take-append-drop}
 use lib.Seq.{getD-set-same, getD-set-other, drop-set-lt, getD-take, length-take-le}
+use Rattle.schedule.specs.Count.{largest}
 use Rattle.schedule.specs.Greedy.{greedyWriting}
+use Rattle.schedule.proofs.Lists.{le-largest, largest-met}
 use Rattle.header.specs.Limits.{maxCards, maxFrames}
 use Rattle.onepass.proofs.Shown.{Top}
 use Rattle.onepass.proofs.Process.{Saved, Ready}
 use Rattle.onepass.proofs.Process as process
 use Rattle.planner.specs.Plan.{written}
-use Rattle.planner.specs.Pass.{turned, place, Asked, Largest, Passed}
+use Rattle.planner.specs.Pass.{turned, place, Asked, Passed}
 use Rattle.planner.proofs.Turned.{place-lt, place-apart, length-turned, turned-turned, getD-turned}
 
 getD-zeros : (n i : ℕ) → _≡_ {A = ℕ} (getD (replicate n 0) i 0) 0
@@ -125,14 +126,7 @@ module _ {m : ℕ} {back : Bool} {cards out₀ out due latest : List ℕ} {made 
             }
 
   -- after the last turn
-  module _ (l : length cards ≤ k) {all : ℕ} (g : Largest maxCards latest all) where
-    latest-le-all : (c : ℕ) → entry latest c ≤ all
-    latest-le-all c =
-        elim (decLt c maxCards) [
-          | yes h ↦ g .over c h
-          | no h ↦ omega (arith, List·getD-eq-default latest 0 {n = c} (omega (arith, v .long-latest)))
-        ]
-
+  module _ (l : length cards ≤ k) {all : ℕ} (all-is : all ≡ largest latest) where
     abbrev list : List ℕ
     list = turned back cards
 
@@ -140,7 +134,9 @@ module _ {m : ℕ} {back : Bool} {cards out₀ out due latest : List ℕ} {made 
     whole = let e : k ≡ length list = omega (arith, length-turned back cards, v .inside) in rw e at (v .saved)
 
     top : Top (length list) (cycleAt back (length cards) out) all
-    top = process.top-latest whole latest-le-all (g .met)
+    top =
+        process.top-latest whole (λ c. rw all-is (le-largest latest c))
+        (λ h. let r = largest-met latest (omega arith) in (r .0, r .2 ∙ sym all-is))
 
     abbrev front : List ℕ
     front = take (length cards) out

@@ -4,7 +4,7 @@ use Prim.Native.Nat.{ℕ, suc, _-_, _≤_, _<_}
 use mathlib.Core.Path.{_≡_}
 use mathlib.Core.Bool.{Bool, true, false}
 use mathlib.Core.List.{List, _++_, map, reverse}
-use lib.ListN.{length, getD, take, drop}
+use lib.ListN.{length, take, drop}
 use Rattle.schedule.specs.Schedule.{cardOf}
 use Rattle.schedule.specs.Greedy.{Plan, saveAndKeep, greedyWriting}
 use Rattle.header.specs.Limits.{maxCards, maxFrames}
@@ -31,11 +31,6 @@ pub record Asked (m : ℕ) (cards out : List ℕ) : Type 0 where
   pub few : length cards ≤ maxFrames
   pub each-card : (i : ℕ) → i < length cards → cardOf cards i < maxCards
   pub room : length cards ≤ length out
-
--- r is the largest of the first n elements
-pub record Largest (n : ℕ) (l : List ℕ) (r : ℕ) : Type 0 where
-  pub over : (c : ℕ) → c < n → getD l c 0 ≤ r
-  pub met : 1 ≤ r → (c : ℕ) × (getD l c 0 ≡ r)
 
 -- a plan is written over the front of `before`, and its T answered
 pub record Filled (plan : Plan) (before after : List ℕ) (T : ℕ) : Type 0 where

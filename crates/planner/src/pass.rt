@@ -1,7 +1,8 @@
 // greedyWriting in one pass over the list: a frame's cycle is known when the frame enters.
 ghost use mathlib.Core.Path.{_≡_};
 ghost use Prim.Native.Nat.{_+_, _≤_, _<_, max};
-ghost use Rattle.planner.specs.Pass.{place, Asked, Largest, Passed};
+ghost use Rattle.schedule.specs.Count.{largest};
+ghost use Rattle.planner.specs.Pass.{place, Asked, Passed};
 
 fn cycle_place(cycle: u16) -> usize
     ensures { λ r. ⌜ r ≡ cycle ⌝ }
@@ -31,17 +32,16 @@ fn place_of(back: bool, n: usize, k: usize) -> usize
     if back { n - 1 - k } else { k }
 }
 
-// The largest of the cards' latest cycles.
-fn largest(latest: &[u16; 32]) -> u16
-    ensures { λ r. ⌜ Largest 32 (now (latest .entry)) r ⌝ }
+fn largest(list: &[u16]) -> u16
+    ensures { λ r. ⌜ r ≡ largest (now (list .entry)) ⌝ }
 {
     let mut top: u16 = 0;
-    let mut c: usize = 0;
-    while c < 32 {
-        let l = latest[c];
-        c += 1;
-        if top < l {
-            top = l;
+    let mut i: usize = 0;
+    while i < list.len() {
+        let x = list[i];
+        i += 1;
+        if top < x {
+            top = x;
         }
     }
     top

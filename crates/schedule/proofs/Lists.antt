@@ -1,6 +1,6 @@
 -- Laws of `tabulate`, of filling a list with it, of `largest`, and of a list reversed.
 -- Assumes nothing.
-use Prim.Native.Nat.{ℕ, zero, suc, _+_, _-_, _≤_, _<_, zero-le}
+use Prim.Native.Nat.{ℕ, zero, suc, _+_, _-_, _≤_, _<_, max, zero-le}
 use mathlib.Core.Path.{_≡_, refl, sym, _∙_}
 use mathlib.Core.List.{List, [], _∷_, _++_, append-assoc, reverse, reverse-cons, map, map-append}
 use native.Mathlib.Omega.{arith}
@@ -8,7 +8,7 @@ use native.Mathlib.Numerals.{add-one}
 use native.Mathlib.Nat.{sub-zero, zero-sub, suc-sub-suc}
 use native.Mathlib.Decide.{decLt, ℕ-discrete}
 use lib.ListN.{length, getD, take, drop, set, replicate, length-drop, length-set, length-append, length-reverse, List·getD-append}
-use lib.Seq.{take-all, getD-at, drop-cons, set-at, ext-getD, getD-set-same, getD-set-other}
+use lib.Seq.{take-all, take-suc, getD-at, drop-cons, set-at, ext-getD, getD-set-same, getD-set-other}
 use Rattle.schedule.specs.Count.{tabulate, largest}
 
 pub length-tabulate : (n : ℕ) (f : ℕ → ℕ) → length (tabulate n f) ≡ n
@@ -78,6 +78,14 @@ largest-met (x ∷ l) h =
           (suc (r .0), omega arith, omega (arith, r .2)))
       | no g ↦ (0, omega arith, omega arith)
     ]
+
+-- the largest of one element more
+largest-snoc : (l : List ℕ) (x : ℕ) → largest (l ++ (x ∷ [])) ≡ max (largest l) x
+largest-snoc [] x = omega arith
+largest-snoc (y ∷ l) x = omega (arith, largest-snoc l x)
+
+pub largest-take : (l : List ℕ) (i : ℕ) → i < length l → largest (take (i + 1) l) ≡ max (largest (take i l)) (getD l i 0)
+largest-take l i h = rw (add-one, take-suc l i 0 h) (largest-snoc (take i l) (getD l i 0))
 
 -- the element that stands at i, seen from the end of the reversed list, and from its front
 pub getD-reverse : (l : List ℕ) (i : ℕ) → i < length l → getD (reverse l) (length l - suc i) 0 ≡ getD l i 0
