@@ -1,7 +1,9 @@
 // greedyWriting in one pass over the list: a frame's cycle is known when the frame enters.
 ghost use mathlib.Core.Path.{_≡_};
 ghost use Prim.Native.Nat.{_+_, _≤_, _<_, max};
+ghost use lib.ListN.{length};
 ghost use Rattle.schedule.specs.Count.{largest};
+ghost use Rattle.header.specs.Limits.{maxCards};
 ghost use Rattle.planner.specs.Pass.{place, Asked, Passed};
 
 fn cycle_place(cycle: u16) -> usize
@@ -32,16 +34,18 @@ fn place_of(back: bool, n: usize, k: usize) -> usize
     if back { n - 1 - k } else { k }
 }
 
-fn largest(list: &[u16]) -> u16
-    ensures { λ r. ⌜ r ≡ largest (now (list .entry)) ⌝ }
+// The largest of the cards' latest cycles. The array's fixed length lets the compiler unroll the loop.
+fn largest(latest: &[u16; 32]) -> u16
+    requires { ⌜ length (now latest) ≡ maxCards ⌝ }
+    ensures { λ r. ⌜ r ≡ largest (now (latest .entry)) ⌝ }
 {
     let mut top: u16 = 0;
-    let mut i: usize = 0;
-    while i < list.len() {
-        let x = list[i];
-        i += 1;
-        if top < x {
-            top = x;
+    let mut c: usize = 0;
+    while c < 32 {
+        let l = latest[c];
+        c += 1;
+        if top < l {
+            top = l;
         }
     }
     top

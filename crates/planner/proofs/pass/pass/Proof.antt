@@ -118,11 +118,8 @@ loop-less c = search needs
 loop-again : tie.Need-loop-again Inv-loop μ-loop
 loop-again c = tables.next-turn (c .before .before .before .before .before .before .before .before .before .before .before .pre) (c .before .before .before .before .before .before .before .before .loop .inv) (c .before .before .before .before .before .before .before .loop-test .taken) (opened (c .before .before .before .before .before .before)) (c .before .before .before .before .before .place-of .ensures .0) (c .before .before .before .card-place .ensures) (c .before .before .next-cycle .ensures) (c .before .cycle-place2 .ensures)
 
-slice-aggregate-largest : tie.Need-slice-aggregate-largest Inv-loop μ-loop
-slice-aggregate-largest c = search needs
-
 largest-requires : tie.Need-largest-requires Inv-loop μ-loop
-largest-requires c κs = search needs
+largest-requires c κs = c .before .before .loop .inv .long-latest
 
 same-length : tie.Need-same-length Inv-loop μ-loop
 same-length c = c .before .before .before .loop .inv .same-out
@@ -162,7 +159,6 @@ pass-spec =
     add-k
     loop-less
     loop-again
-    slice-aggregate-largest
     largest-requires
     same-length
     returns)
