@@ -1,19 +1,17 @@
 -- What the parts of `plan` found, as the answer to the ticket.
 -- Assumes nothing.
 use Prim.Native.Nat.{ℕ, _-_, _≤_, _<_}
-use mathlib.Core.Path.{_≡_, refl, ap, _∙_}
+use mathlib.Core.Path.{_≡_, refl}
 use mathlib.Core.List.{List}
 use native.Mathlib.Omega.{arith}
-use lib.ListN.{length, take}
-use lib.Seq.{take-at}
+use lib.ListN.{length}
 use borrow.Author.Tests.{lt-ltb, le-ltb}
-use Rattle.header.specs.Limits.{maxFrames}
 use Rattle.header.specs.declared.Header.{Header}
-use Rattle.header.specs.declared.Answer.the-variants.{Accepted, Refused as RefusedTicket}
-use Rattle.ticket.specs.Ticket.{accepted, parse, ticketOf, zeros}
+use Rattle.header.specs.declared.Answer.the-variants.{Refused as RefusedTicket}
+use Rattle.ticket.specs.Ticket.{accepted, parse, ticketOf}
 use Rattle.ticket.specs.Grounds.{Fits}
 use Rattle.ticket.specs.declared.Ticket.{Ticket}
-use Rattle.ticket.proofs.Answers.{was-refused, shown}
+use Rattle.ticket.proofs.Answers.{was-refused}
 use Rattle.planner.specs.Plan.{planFor, answerTo, bufferAfter, Answered}
 use Rattle.planner.specs.Pass.{Asked, Filled}
 use Rattle.planner.specs.declared.Answer.the-variants.{Planned, Refused}
@@ -52,15 +50,3 @@ module _ (t : List ℕ) (x : Ticket) (e : x ≡ ticketOf (parse t)) where
   pub ticket-refused : (k : ℕ) (before : List ℕ) → x .answer ≡ RefusedTicket k → Answered (parse t) before before (Refused k)
   unfolding answerTo bufferAfter
   ticket-refused k before q = rw (was-refused t x e k q) (record { answer = refl; buffer = refl })
-
-  module _ (h : Header) (q : x .answer ≡ Accepted h) where
-    front : take (h .frames) (x .card) ≡ shown t x e h q .cards
-    front =
-        let s = shown t x e h q in
-        ap (take (h .frames)) (s .array) ∙ take-at (s .cards) (zeros (maxFrames - length (s .cards))) (h .frames) (s .fitting .frames)
-
-    pub list-fits : Fits h (take (h .frames) (x .card))
-    list-fits = rw front (shown t x e h q .fitting)
-
-    pub list-read : parse t ≡ accepted h (take (h .frames) (x .card))
-    list-read = rw front (shown t x e h q .parsed)

@@ -8,12 +8,13 @@ use native.Mathlib.Omega.{arith}
 use lib.ListN.{length, getD, drop, length-append, length-map, length-reverse, List·getD-append}
 use borrow.Author.Tests.{eq-eqb, ne-eqb}
 use lib.Seq.{take-at, drop-at}
+use Rattle.schedule.specs.Count.{written}
 use Rattle.schedule.specs.Greedy.{saveAndKeep, greedyWriting, lazyPrefetching}
 use Rattle.schedule.proofs.Lists.{le-largest, reverse-getD, map-reverse}
 use Rattle.schedule.proofs.Main.{save-correct, save-length}
 use Rattle.header.specs.Limits.{read, save}
 use Rattle.onepass.specs.AsOf.{asOf}
-use Rattle.planner.specs.Plan.{planFor, written}
+use Rattle.planner.specs.Plan.{planFor}
 use Rattle.planner.specs.Pass.{onFirst, Asked, Passed, Filled}
 
 -- the elements written are replaced by f of them

@@ -1,6 +1,6 @@
 -- The arrays of the pass hold the tables of crates/onepass, turn by turn, and at the end greedyWriting's plan.
 -- Assumes nothing.
-use Prim.Native.Nat.{ℕ, zero, suc, _+_, _-_, _≤_, _<_, max, zero-le}
+use Prim.Native.Nat.{ℕ, suc, _+_, _-_, _≤_, _<_, max, zero-le}
 use mathlib.Core.Path.{_≡_, refl, sym, ap, _∙_}
 use mathlib.Core.Bool.{Bool}
 use mathlib.Core.List.{List}
@@ -8,21 +8,15 @@ use native.Mathlib.Omega.{arith}
 use native.Mathlib.Numerals.{add-one}
 use lib.ListN.{length, getD, take, drop, set, replicate, length-replicate, length-set, take-append-drop}
 use lib.Seq.{getD-set-same, getD-set-other, drop-set-lt, getD-take, length-take-le}
-use Rattle.schedule.specs.Count.{largest}
+use Rattle.schedule.specs.Count.{largest, written}
 use Rattle.schedule.specs.Greedy.{greedyWriting}
-use Rattle.schedule.proofs.Lists.{le-largest, largest-met}
+use Rattle.schedule.proofs.Lists.{getD-zeros, le-largest, largest-met}
 use Rattle.header.specs.Limits.{maxCards, maxFrames}
 use Rattle.onepass.proofs.Shown.{Top}
 use Rattle.onepass.proofs.Process.{Saved, Ready}
 use Rattle.onepass.proofs.Process as process
-use Rattle.planner.specs.Plan.{written}
 use Rattle.planner.specs.Pass.{turned, place, Asked, Passed}
 use Rattle.planner.proofs.Turned.{place-lt, place-apart, length-turned, turned-turned, getD-turned}
-
-getD-zeros : (n i : ℕ) → _≡_ {A = ℕ} (getD (replicate n 0) i 0) 0
-getD-zeros zero i = refl
-getD-zeros (suc n) zero = refl
-getD-zeros (suc n) (suc i) = getD-zeros n i
 
 -- the cycle of the frame taken i-th, and an entry of an array
 abbrev cycleAt : Bool → ℕ → List ℕ → ℕ → ℕ

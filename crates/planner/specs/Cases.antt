@@ -6,16 +6,11 @@ use mathlib.Core.Bool.{cond}
 use mathlib.Core.List.{List}
 use lib.Dec.{eqb}
 use lib.ListN.{length}
-use Rattle.schedule.specs.Cases.{Answer, Case, _gives_, plan, readPlan, savePlan, keepPlan, drive, peakOf, most}
-use Rattle.header.specs.Limits.{edition1, read, save, saveAndKeep, maxCards}
+use Rattle.schedule.specs.Cases.{Answer, Case, _gives_, plan, readPlan, savePlan, keepPlan, drive, peakOf, checkRead, checkSave, most}
+use Rattle.header.specs.Limits.{read, save, saveAndKeep}
 use Rattle.ticket.specs.Ticket.{Parsed, parse, zeros}
-use Rattle.ticket.specs.Print.{ticketText}
+use Rattle.ticket.specs.Print.{ticketFor}
 use Rattle.planner.specs.Plan.{refusalIn, lengthIn, answerTo, bufferAfter}
-
--- a ticket that asks for a plan
-abbrev pub ticketFor : ℕ → ℕ → List ℕ → List ℕ
-ticketFor mode m cards =
-    ticketText (record { edition = edition1; mode = mode; cards = maxCards; pool = m; frames = length cards }) cards
 
 -- the buffer and T after a call; a refusal is none of the table's answers
 abbrev afterCall : Parsed → List ℕ → Answer
@@ -34,3 +29,5 @@ asked (savePlan m cards gives a) = ask save m cards
 asked (keepPlan m cards gives a) = ask saveAndKeep m cards
 asked (drive m cards steps gives a) = a
 asked (peakOf m cards steps gives a) = a
+asked (checkRead m cards cycles gives a) = a
+asked (checkSave m cards cycles gives a) = a

@@ -5,11 +5,11 @@ use mathlib.Core.Path.{_≡_}
 use mathlib.Core.Bool.{Bool, true, false}
 use mathlib.Core.List.{List, _++_, map, reverse}
 use lib.ListN.{length, take, drop}
+use Rattle.schedule.specs.Count.{written}
 use Rattle.schedule.specs.Schedule.{cardOf}
 use Rattle.schedule.specs.Greedy.{Plan, saveAndKeep, greedyWriting}
 use Rattle.header.specs.Limits.{maxCards, maxFrames}
 use Rattle.onepass.specs.AsOf.{asOf}
-use Rattle.planner.specs.Plan.{written}
 
 -- a list taken from its back, or from its front
 abbrev pub turned : Bool → List ℕ → List ℕ

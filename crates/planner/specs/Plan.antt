@@ -4,9 +4,10 @@
 use Prim.Native.Nat.{ℕ}
 use mathlib.Core.Path.{_≡_}
 use mathlib.Core.Bool.{cond}
-use mathlib.Core.List.{List, _++_}
+use mathlib.Core.List.{List}
 use lib.Dec.{eqb, ltb}
-use lib.ListN.{length, drop}
+use lib.ListN.{length}
+use Rattle.schedule.specs.Count.{written}
 use Rattle.schedule.specs.Greedy.{Plan, saveAndKeep, greedyWriting, lazyPrefetching}
 use Rattle.header.specs.Limits.{read, save}
 use Rattle.ticket.specs.Ticket.{Parsed, accepted, refused}
@@ -26,17 +27,13 @@ lengthIn (Refused k) = 0
 abbrev pub planFor : ℕ → ℕ → List ℕ → Plan
 planFor mode m cards = cond (eqb mode read) (lazyPrefetching m cards) (cond (eqb mode save) (greedyWriting m cards) (saveAndKeep m cards))
 
--- A plan written into a buffer: "A plan fills the first L places, and later places keep their content."
-abbrev pub written : List ℕ → List ℕ → List ℕ
-written cycles before = cycles ++ drop (length cycles) before
-
 -- "plan buffer has fewer than L places": 10, after the ticket's own
 unfoldable pub answerTo : Parsed → ℕ → Answer
 answerTo (accepted h cards) places =
     cond (ltb places (length cards)) (Refused 10) (Planned (record { 0 = planFor (h .mode) (h .pool) cards .T }))
 answerTo (refused k) places = Refused k
 
--- The buffer afterwards; unchanged by a refusal.
+-- The buffer afterwards: "A plan fills the first L places, and later places keep their content." A refusal changes nothing.
 unfoldable pub bufferAfter : Parsed → List ℕ → List ℕ
 bufferAfter (accepted h cards) before =
     cond (ltb (length before) (length cards)) before (written (planFor (h .mode) (h .pool) cards .cycles) before)

@@ -7,11 +7,12 @@ use native.Mathlib.Omega.{arith}
 use Rattle.schedule.specs.Schedule.{cycleOf, oBacklog, CorrectSave}
 use Rattle.schedule.specs.Greedy.{saveAndKeep, greedyWriting, lazyPrefetching}
 use Rattle.schedule.specs.Dock.{run}
-use Rattle.schedule.specs.Drive.{outcome, peak}
+use Rattle.schedule.specs.Drive.{outcome, peak, stepsTo}
+use Rattle.schedule.specs.Verdict.{verdictOnRead, verdictOnSave}
 use Rattle.schedule.specs.Cases.{computed, expected, cases}
 
 pub cases-hold : map computed cases ≡ map expected cases
-unfolding saveAndKeep greedyWriting lazyPrefetching run outcome peak
+unfolding saveAndKeep greedyWriting lazyPrefetching run outcome peak stepsTo verdictOnRead verdictOnSave
 cases-hold = refl
 
 abbrev newestFirst : List ℕ

@@ -58,7 +58,7 @@ module _ (m : ℕ) (cards cycles : List ℕ) (ok : CorrectRead m cards cycles) w
             )
       ]
 
-  reached-reads : (n k : ℕ) (d : Dock) → k ≤ L → n ≤ T → Mid n 0 d → Reached n k (readsOf cycles (suc n) k) d
+  pub reached-reads : (n k : ℕ) (d : Dock) → k ≤ L → n ≤ T → Mid n 0 d → Reached n k (readsOf cycles (suc n) k) d
   unfolding run
   reached-reads n zero d h b v = (v, throughout-none m cards OnTrack d (n, 0, b, v))
   reached-reads n (suc k) d h b v = reached-read n k (readsOf cycles (suc n) k) d h b (reached-reads n k d (omega arith) b v)
@@ -89,7 +89,7 @@ module _ (m : ℕ) (cards cycles : List ℕ) (ok : CorrectRead m cards cycles) w
       let start : Mid 0 0 emptyDock = mid.mid-start m cards cycles ok in
       (start, throughout-none m cards OnTrack emptyDock (0, 0, zero-le, start))
 
-  reached-cycles : (n : ℕ) → n ≤ T → Reached n 0 (stepsTo cycles n) emptyDock
+  pub reached-cycles : (n : ℕ) → n ≤ T → Reached n 0 (stepsTo cycles n) emptyDock
   reached-cycles zero h = reached-none
   reached-cycles (suc n) h = reached-cycle n h (reached-cycles n (omega arith))
 

@@ -1,6 +1,9 @@
 pub mod Main
 pub mod Fewest
 pub mod Cases
+pub mod Exact
+pub mod Named
+pub mod Peak
 pub mod Drive
 pub mod Mid
 pub mod Duality

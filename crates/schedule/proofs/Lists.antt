@@ -59,6 +59,11 @@ drop-replicate n zero x = rw sub-zero
 drop-replicate zero (suc k) x = rw zero-sub
 drop-replicate (suc n) (suc k) x = rw suc-sub-suc (drop-replicate n k x)
 
+pub getD-zeros : (n i : ℕ) → _≡_ {A = ℕ} (getD (replicate n 0) i 0) 0
+getD-zeros zero i = refl
+getD-zeros (suc n) zero = refl
+getD-zeros (suc n) (suc i) = getD-zeros n i
+
 pub le-largest : (l : List ℕ) (i : ℕ) → getD l i 0 ≤ largest l
 le-largest [] i = zero-le
 le-largest (x ∷ l) zero = omega arith
@@ -80,7 +85,7 @@ largest-met (x ∷ l) h =
     ]
 
 -- the largest of one element more
-largest-snoc : (l : List ℕ) (x : ℕ) → largest (l ++ (x ∷ [])) ≡ max (largest l) x
+pub largest-snoc : (l : List ℕ) (x : ℕ) → largest (l ++ (x ∷ [])) ≡ max (largest l) x
 largest-snoc [] x = omega arith
 largest-snoc (y ∷ l) x = omega (arith, largest-snoc l x)
 

@@ -1,19 +1,26 @@
 -- The public theorems about schedules and the dock, each proved in a module of its own. They hold for every list of cards and every pool m
--- from 1 on, with no other premise. The definitions are in specs/: Schedule, Greedy, Dock, Drive; demand 3 as a whole is in specs/Demand.
+-- from 1 on, with no other premise. The definitions are in specs/: Schedule, Greedy, Dock, Drive, Closed; demand 3 as a whole is in
+-- specs/Demand.
 -- Assumes nothing.
 use Prim.Native.Nat.{ℕ, _≤_}
-use mathlib.Core.Path.{_≡_}
+use mathlib.Core.Path.{_≡_, ap, _∙_}
 use mathlib.Core.List.{List, [], _∷_, reverse, map}
 use lib.ListN.{length}
+use Rattle.schedule.specs.Count.{tabulate, largest}
 use Rattle.schedule.specs.Schedule.{cyclesIn, oBacklog, iBacklog, CorrectSave, CorrectRead}
 use Rattle.schedule.specs.Greedy.{greedyWriting, turnRound, lazyPrefetching}
 use Rattle.schedule.specs.Dock.{Step, emptyDock, run}
-use Rattle.schedule.specs.Drive.{complete, outcome}
+use Rattle.schedule.specs.Drive.{complete, outcome, stepsOf, peak}
+use Rattle.schedule.specs.Verdict.{Fault, valid, faulty, verdictOnRead, verdictOnSave, Named}
 use Rattle.schedule.specs.Demand.{SaveDemand, Drives, ReadDemand}
+use Rattle.schedule.specs.Closed.{readBefore}
 use Rattle.schedule.specs.Cases.{computed, expected, cases}
 use Rattle.schedule.proofs.Fewest as fewest
 use Rattle.schedule.proofs.Duality as duality
 use Rattle.schedule.proofs.Drive as drive
+use Rattle.schedule.proofs.Peak as peaks
+use Rattle.schedule.proofs.Exact as exact
+use Rattle.schedule.proofs.Named as faults
 use Rattle.schedule.proofs.Cases as table
 
 module _ (m : ℕ) (cards : List ℕ) (pool : 1 ≤ m) where
@@ -61,6 +68,39 @@ module _ (m : ℕ) (cards cycles : List ℕ) where
   pub correct-drives : CorrectRead m cards cycles → Drives m cards cycles (cyclesIn cycles)
   correct-drives = drive.correct-drives m cards cycles
 
+  -- The peak of every correct read schedule's run, on a dock with a buffer for every frame, is the largest number of later frames that are
+  -- read before a frame.
+  pub peak-closed : CorrectRead m cards cycles
+      → peak (length cards) cards (stepsOf cycles) emptyDock ≡ largest (tabulate (length cycles) (readBefore cycles))
+  peak-closed = peaks.peak-closed m cards cycles
+
+  -- The checker's verdict (demand 2). A plan of L cycles is called valid exactly when it is a correct schedule; T is then its number of
+  -- cycles, and the peak that of its run on a dock with a buffer for every frame.
+  pub valid-read : length cycles ≡ length cards → (T p : ℕ) → verdictOnRead m cards cycles ≡ valid T p → CorrectRead m cards cycles
+  unfolding verdictOnRead
+  valid-read = λ n T p. exact.valid-correct iBacklog m cards cycles (valid (cyclesIn cycles) (peak (length cards) cards (stepsOf cycles) emptyDock)) T p n
+
+  pub read-valid : CorrectRead m cards cycles → verdictOnRead m cards cycles ≡ valid (cyclesIn cycles) (peak (length cards) cards (stepsOf cycles) emptyDock)
+  unfolding verdictOnRead
+  read-valid = exact.correct-valid iBacklog m cards cycles (valid (cyclesIn cycles) (peak (length cards) cards (stepsOf cycles) emptyDock))
+
+  pub valid-save : length cycles ≡ length cards → (T p : ℕ) → verdictOnSave m cards cycles ≡ valid T p → CorrectSave m cards cycles
+  unfolding verdictOnSave
+  valid-save = λ n T p. exact.valid-correct oBacklog m cards cycles (valid (cyclesIn cycles) 0) T p n
+
+  pub save-valid : CorrectSave m cards cycles → verdictOnSave m cards cycles ≡ valid (cyclesIn cycles) 0
+  unfolding verdictOnSave
+  save-valid = exact.correct-valid oBacklog m cards cycles (valid (cyclesIn cycles) 0)
+
+  -- A verdict that is not valid names the lowest position at fault, and the first of its faults.
+  pub read-named : (i : ℕ) (f : Fault) → verdictOnRead m cards cycles ≡ faulty i f → Named iBacklog m cards cycles i f
+  unfolding verdictOnRead
+  read-named = faults.named iBacklog m cards cycles (cyclesIn cycles) (peak (length cards) cards (stepsOf cycles) emptyDock)
+
+  pub save-named : (i : ℕ) (f : Fault) → verdictOnSave m cards cycles ≡ faulty i f → Named oBacklog m cards cycles i f
+  unfolding verdictOnSave
+  save-named = faults.named oBacklog m cards cycles (cyclesIn cycles) 0
+
   -- The duality principle (the paper, Theorem 1), both ways: a correct schedule of T cycles turned round is correct for the reversed list,
   -- in T cycles or fewer.
   pub save-to-read : CorrectSave m cards cycles
@@ -70,6 +110,19 @@ module _ (m : ℕ) (cards cycles : List ℕ) where
   pub read-to-save : CorrectRead m cards cycles
       → CorrectSave m (reverse cards) (turnRound (cyclesIn cycles) cycles) × (cyclesIn (turnRound (cyclesIn cycles) cycles) ≤ cyclesIn cycles)
   read-to-save ok = (duality.read-to-save m cards cycles ok, duality.turned-no-longer m iBacklog oBacklog cards cycles ok)
+
+-- Our own plans are always valid, with their T.
+module _ (m : ℕ) (cards : List ℕ) (pool : 1 ≤ m) where
+  pub own-read-valid :
+      verdictOnRead m cards (lazyPrefetching m cards .cycles)
+      ≡ valid (lazyPrefetching m cards .T) (peak (length cards) cards (stepsOf (lazyPrefetching m cards .cycles)) emptyDock)
+  own-read-valid =
+      read-valid m cards (lazyPrefetching m cards .cycles) (read-correct m cards pool)
+      ∙ ap (λ T. valid T (peak (length cards) cards (stepsOf (lazyPrefetching m cards .cycles)) emptyDock)) (read-length m cards pool)
+
+  pub own-save-valid : verdictOnSave m cards (greedyWriting m cards .cycles) ≡ valid (greedyWriting m cards .T) 0
+  own-save-valid =
+      save-valid m cards (greedyWriting m cards .cycles) (save-correct m cards pool) ∙ ap (λ T. valid T 0) (save-length m cards pool)
 
 -- The table of cases.
 pub cases-hold : map computed cases ≡ map expected cases

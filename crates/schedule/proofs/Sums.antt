@@ -156,6 +156,13 @@ sum-some zero f h = h
 sum-some (suc n) f h =
     elim (decLe 1 (sum n f)) [ yes l ↦ omega (arith, sum-some n f l) | no l ↦ omega arith ]
 
+pub some-passes : (n : ℕ) (t : ℕ → Bool) → 0 < howMany n t → (i : ℕ) × (i < n) × (t i ≡ true)
+some-passes zero t h = absurd (omega arith)
+some-passes (suc n) t h =
+    by-cases (t n)
+    (λ e. (n, omega arith, e))
+    (λ e. let r : (i : ℕ) × (i < n) × (t i ≡ true) = some-passes n t (omega (arith, ap bit e)) in (r .0, omega (arith, r .1), r .2))
+
 -- one that passes is not among those before it
 pub passes-after : (n i : ℕ) (t : ℕ → Bool) → i < n → t i ≡ true → howMany i t < howMany n t
 passes-after n i t l e = omega (arith, sum-longer (suc i) n (λ j. bit (t j)) l, ap bit e)

@@ -7,15 +7,18 @@ use mathlib.Core.List.{List, [], _∷_}
 use Rattle.schedule.specs.Greedy.{Plan, saveAndKeep, greedyWriting, lazyPrefetching}
 use Rattle.schedule.specs.Dock.{Step, readFrame, dropFrame, endCycle, Dock, emptyDock, holding, run}
 use Rattle.schedule.specs.Drive.{Outcome, complete, unfinished, outcome, peak}
+use Rattle.schedule.specs.Verdict.{Verdict, valid, faulty, noCycle, sharedCard, overfull, verdictOnRead, verdictOnSave}
 
 infix 70 _gives_
--- for a pool of m and the cards of a list: a plan, a run of the dock, the peak of a run
+-- for a pool of m and the cards of a list: a plan, a run of the dock, the peak of a run, the checker's verdict on a plan
 pub data Question : Type 0 where
   readPlan : ℕ → List ℕ → Question
   savePlan : ℕ → List ℕ → Question
   keepPlan : ℕ → List ℕ → Question
   drive : ℕ → List ℕ → List Step → Question
   peakOf : ℕ → List ℕ → List Step → Question
+  checkRead : ℕ → List ℕ → List ℕ → Question
+  checkSave : ℕ → List ℕ → List ℕ → Question
 
 pub data Answer : Type 0 where
   -- the cycles and T
@@ -23,6 +26,7 @@ pub data Answer : Type 0 where
   -- the outcome, the frames delivered, the frames held, and whether the steps are broken off
   dock : Outcome → ℕ → ℕ → Bool → Answer
   most : ℕ → Answer
+  verdict : Verdict → Answer
 
 pub data Case : Type 0 where
   _gives_ : Question → Answer → Case
@@ -39,6 +43,8 @@ answerTo (savePlan m cards) = planOf (greedyWriting m cards)
 answerTo (keepPlan m cards) = planOf (saveAndKeep m cards)
 answerTo (drive m cards steps) = dockOf cards (outcome m cards steps emptyDock) (run m cards steps emptyDock)
 answerTo (peakOf m cards steps) = most (peak m cards steps emptyDock)
+answerTo (checkRead m cards cycles) = verdict (verdictOnRead m cards cycles)
+answerTo (checkSave m cards cycles) = verdict (verdictOnSave m cards cycles)
 
 abbrev pub computed : Case → Answer
 computed (question gives answer) = answerTo question
@@ -89,4 +95,25 @@ cases =
     ∷ peakOf 3 (0 ∷ 0 ∷ 1 ∷ []) (readFrame 0 ∷ readFrame 2 ∷ endCycle ∷ readFrame 1 ∷ endCycle ∷ []) gives most 1
     ∷ peakOf 3 (0 ∷ 0 ∷ 1 ∷ []) (readFrame 0 ∷ endCycle ∷ readFrame 1 ∷ readFrame 2 ∷ endCycle ∷ []) gives most 0
     ∷ peakOf 1 (0 ∷ 1 ∷ 2 ∷ []) (readFrame 1 ∷ readFrame 2 ∷ endCycle ∷ []) gives most 0
+    -- the starred verdicts
+    ∷ checkRead 2 (0 ∷ 0 ∷ 1 ∷ []) (1 ∷ 2 ∷ 1 ∷ []) gives verdict (valid 2 1)
+    ∷ checkRead 2 (0 ∷ 0 ∷ 1 ∷ []) (2 ∷ 1 ∷ 2 ∷ []) gives verdict (faulty 0 overfull)
+    ∷ checkRead 3 (0 ∷ 0 ∷ 1 ∷ []) (2 ∷ 1 ∷ 2 ∷ []) gives verdict (valid 2 1)
+    ∷ checkRead 1 (0 ∷ 0 ∷ 1 ∷ []) (1 ∷ 2 ∷ 2 ∷ []) gives verdict (faulty 1 overfull)
+    -- the other verdicts of document 01
+    ∷ checkRead 1 (0 ∷ 0 ∷ 1 ∷ []) (1 ∷ 1 ∷ 2 ∷ []) gives verdict (faulty 0 overfull)
+    ∷ checkRead 2 (0 ∷ 0 ∷ 1 ∷ []) (1 ∷ 1 ∷ 2 ∷ []) gives verdict (faulty 1 sharedCard)
+    ∷ checkRead 2 (0 ∷ 0 ∷ 1 ∷ []) (1 ∷ 3 ∷ 3 ∷ []) gives verdict (valid 3 0)
+    -- of a frame's faults the first: cycle 0, then a shared card, then the pool
+    ∷ checkRead 1 (0 ∷ 0 ∷ 1 ∷ []) (0 ∷ 0 ∷ 0 ∷ []) gives verdict (faulty 0 noCycle)
+    ∷ checkSave 1 (0 ∷ 0 ∷ []) (1 ∷ 1 ∷ []) gives verdict (faulty 1 sharedCard)
+    ∷ checkSave 1 (0 ∷ 1 ∷ []) (1 ∷ 1 ∷ []) gives verdict (faulty 1 overfull)
+    -- a later cycle 0 takes part in the pool rule of an earlier frame, and an earlier one in that of a later frame
+    ∷ checkRead 1 (0 ∷ 1 ∷ []) (1 ∷ 0 ∷ []) gives verdict (faulty 0 overfull)
+    ∷ checkSave 1 (0 ∷ 1 ∷ []) (0 ∷ 1 ∷ []) gives verdict (faulty 0 noCycle)
+    -- a save counts earlier frames, and its peak is 0
+    ∷ checkSave 2 (0 ∷ 0 ∷ 1 ∷ []) (1 ∷ 2 ∷ 2 ∷ []) gives verdict (valid 2 0)
+    ∷ checkSave 2 (0 ∷ 0 ∷ 1 ∷ []) (2 ∷ 3 ∷ 1 ∷ []) gives verdict (faulty 2 overfull)
+    -- with no frames
+    ∷ checkRead 1 [] [] gives verdict (valid 0 0)
     ∷ []

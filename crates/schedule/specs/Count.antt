@@ -1,8 +1,10 @@
--- Counting by position: sums over the numbers below n, how many of them pass a test, and the list of a function's values.
+-- Counting by position: sums over the numbers below n, how many of them pass a test, the list of a function's values; and a list written
+-- into a buffer.
 -- Assumes nothing.
 use Prim.Native.Nat.{ℕ, zero, suc, _+_, max}
 use mathlib.Core.Bool.{Bool, true, false}
 use mathlib.Core.List.{List, [], _∷_, _++_}
+use lib.ListN.{length, drop}
 
 -- 1 where the test passes, else 0
 abbrev pub bit : Bool → ℕ
@@ -27,3 +29,7 @@ tabulate (suc n) f = tabulate n f ++ (f n ∷ [])
 abbrev pub largest : List ℕ → ℕ
 largest [] = 0
 largest (x ∷ l) = max x (largest l)
+
+-- a list written over the front of a buffer; later places keep their content
+abbrev pub written : List ℕ → List ℕ → List ℕ
+written l before = l ++ drop (length l) before

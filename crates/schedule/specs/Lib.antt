@@ -3,5 +3,7 @@ pub mod Schedule
 pub mod Greedy
 pub mod Dock
 pub mod Drive
+pub mod Verdict
 pub mod Demand
+pub mod Closed
 pub mod Cases

@@ -5,6 +5,7 @@ use mathlib.Core.Path.{_≡_, refl, sym, ap, _∙_}
 use mathlib.Core.List.{List, [], _++_}
 use native.Mathlib.Omega.{arith}
 use lib.ListN.{length, take, drop, replicate, length-append, List·getD-append}
+use lib.Seq.{take-at}
 use borrow.Author.Tests.{ne-eqb, lt-ltb, le-ltb, ltb-true}
 use lib.Dec.{ltb}
 use Rattle.schedule.specs.Count.{tabulate}
@@ -139,3 +140,15 @@ module _ (t : List ℕ) (x : Ticket) (e : x ≡ ticketOf (parse t)) where
     counts-given =
         let s = shown h q in
         tally-gives h (s .cards) (zeros _) (x .card) (s .fitting) (s .array) ∙ sym (ap countsOf (s .parsed))
+
+    -- the front of the array is the list
+    front : take (h .frames) (x .card) ≡ shown h q .cards
+    front =
+        let s = shown h q in
+        ap (take (h .frames)) (s .array) ∙ take-at (s .cards) (zeros (maxFrames - length (s .cards))) (h .frames) (s .fitting .frames)
+
+    pub list-fits : Fits h (take (h .frames) (x .card))
+    list-fits = rw front (shown h q .fitting)
+
+    pub list-read : parse t ≡ accepted h (take (h .frames) (x .card))
+    list-read = rw front (shown h q .parsed)

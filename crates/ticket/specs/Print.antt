@@ -2,6 +2,8 @@
 -- Assumes nothing.
 use Prim.Native.Nat.{ℕ}
 use mathlib.Core.List.{List, [], _∷_, _++_}
+use lib.ListN.{length}
+use Rattle.header.specs.Limits.{edition1, maxCards}
 use Rattle.header.specs.declared.Header.{Header}
 use Rattle.text.specs.Hex.{hex, endOfLine}
 use Rattle.ticket.specs.Ticket.{lineDigits}
@@ -17,3 +19,8 @@ lineTexts (card ∷ cards) = (hex lineDigits card ++ endOfLine) ++ lineTexts car
 -- the ticket of these values
 unfoldable pub ticketText : Header → List ℕ → List ℕ
 ticketText h cards = headerText h ++ lineTexts cards
+
+-- a ticket that asks for a mode, with 32 cards and a pool of m
+abbrev pub ticketFor : ℕ → ℕ → List ℕ → List ℕ
+ticketFor mode m cards =
+    ticketText (record { edition = edition1; mode = mode; cards = maxCards; pool = m; frames = length cards }) cards

@@ -1,6 +1,7 @@
 -- `planner::plan` meets its contract.
 -- Assumes nothing.
-use Rattle.planner.proofs.Answers.{ticket-refused, list-fits, list-read}
+use Rattle.planner.proofs.Answers.{ticket-refused}
+use Rattle.ticket.proofs.Answers.{list-fits, list-read}
 use Rattle.planner.proofs.Demand.{contract}
 use borrow.Author.Needs.{needs}
 use Rattle.planner.proofs.plan.Statement.{statement}

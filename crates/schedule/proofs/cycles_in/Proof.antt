@@ -1,0 +1,61 @@
+-- `schedule::cycles_in` meets its contract.
+-- Assumes nothing.
+use borrow.Author.Needs.{needs}
+use Prim.Native.Nat.{_≤_, _-_}
+use mathlib.Core.Path.{_≡_, refl}
+use native.Mathlib.Omega.{arith}
+use lib.ListN.{take}
+use lib.Seq.{take-all}
+use Rattle.schedule.specs.Count.{largest}
+use Rattle.schedule.proofs.Lists.{largest-take}
+use Rattle.schedule.proofs.cycles_in.Statement.{statement}
+use Rattle.schedule.proofs.cycles_in.Tie as tie
+
+abbrev Inv-loop : tie.InvT-loop
+Inv-loop plan n top₀ i₀ top i = (i ≤ n) × (top ≡ largest (take i plan))
+
+abbrev μ-loop : tie.MeasureT-loop
+μ-loop plan n top₀ i₀ top i = n - i
+
+loop-holds : tie.Need-loop-holds Inv-loop μ-loop
+loop-holds c = (omega arith, refl)
+
+mul-c : tie.Need-mul-c Inv-loop μ-loop
+mul-c c = search needs
+
+shared-slice-read-c : tie.Need-shared-slice-read-c Inv-loop μ-loop
+shared-slice-read-c c = search needs
+
+add-i : tie.Need-add-i Inv-loop μ-loop
+add-i c = search needs
+
+loop-less : tie.Need-loop-less Inv-loop μ-loop
+loop-less c = search needs
+
+loop-again : tie.Need-loop-again Inv-loop μ-loop
+loop-again c = (omega arith, omega (arith, c .before .before .before .loop .inv .1, largest-take (c .before .before .before .before .args .plan .now) (c .before .before .before .loop .i) (c .before .before .loop-test .taken)))
+
+loop-less-2 : tie.Need-loop-less-2 Inv-loop μ-loop
+loop-less-2 c = search needs
+
+loop-again-2 : tie.Need-loop-again-2 Inv-loop μ-loop
+loop-again-2 c = (omega arith, omega (arith, c .before .before .before .loop .inv .1, largest-take (c .before .before .before .before .args .plan .now) (c .before .before .before .loop .i) (c .before .before .loop-test .taken)))
+
+returns : tie.Need-returns Inv-loop μ-loop
+returns c = rw (take-all (c .before .loop .i) (c .before .before .args .plan .now) (c .loop-test .left)) at (c .before .loop .inv .1)
+
+pub cycles-in-spec : {M : Type 1} → statement M
+cycles-in-spec =
+    tie.close
+    (tie.spec
+    Inv-loop
+    μ-loop
+    loop-holds
+    mul-c
+    shared-slice-read-c
+    add-i
+    loop-less
+    loop-again
+    loop-less-2
+    loop-again-2
+    returns)
