@@ -1,0 +1,11 @@
+pub mod Main
+pub mod Cases
+pub mod Accepts
+pub mod Answers
+pub mod Whole
+pub mod Counting
+pub mod Adding
+pub mod Turns
+pub mod Most
+pub mod Sharing
+pub mod Judged

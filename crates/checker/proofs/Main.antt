@@ -1,0 +1,41 @@
+-- The public theorems about `check`. Its contract (src/lib.rt) states the same for each call.
+-- Assumes nothing.
+use Prim.Native.Nat.{ℕ}
+use mathlib.Core.Path.{_≡_}
+use mathlib.Core.List.{List, map}
+use lib.ListN.{length}
+use Rattle.schedule.specs.Cases.{Case, expected, cases}
+use Rattle.schedule.specs.Greedy.{greedyWriting, lazyPrefetching}
+use Rattle.schedule.specs.Dock.{emptyDock}
+use Rattle.schedule.specs.Drive.{peak, stepsOf}
+use Rattle.header.specs.Limits.{read, save}
+use Rattle.header.specs.declared.Header.{Header}
+use Rattle.ticket.specs.Ticket.{accepted, parse}
+use Rattle.checker.specs.Check.{checkOf}
+use Rattle.checker.specs.Exact.{Exact}
+use Rattle.checker.specs.Cases.{told, asked}
+use Rattle.checker.specs.declared.Verdict.{Verdict}
+use Rattle.checker.specs.declared.Verdict.the-variants.{Valid}
+use Rattle.checker.proofs.Cases as table
+use Rattle.checker.proofs.Accepts as accepts
+
+-- Every answer that equals the definition, for whichever ticket and plan, is valid exactly when the plan meets the paper's conditions.
+pub check-exact : (t cycles : List ℕ) (r : Verdict) → r ≡ checkOf (parse t) cycles → Exact t cycles r
+check-exact = accepts.exact
+
+-- Our own plans are valid, with their T: the read plan also with the peak of its run on a dock with a buffer for every frame.
+module _ (t : List ℕ) (h : Header) (cards : List ℕ) (e : parse t ≡ accepted h cards) where
+  pub own-read-valid :
+      h .mode ≡ read
+      → checkOf (parse t) (lazyPrefetching (h .pool) cards .cycles)
+      ≡ Valid (record { 0 = lazyPrefetching (h .pool) cards .T })
+      (peak (length cards) cards (stepsOf (lazyPrefetching (h .pool) cards .cycles)) emptyDock)
+  own-read-valid = accepts.own-read t h cards e
+
+  pub own-save-valid :
+      h .mode ≡ save → checkOf (parse t) (greedyWriting (h .pool) cards .cycles) ≡ Valid (record { 0 = greedyWriting (h .pool) cards .T }) 0
+  own-save-valid = accepts.own-save t h cards e
+
+-- The starred verdicts of document 01 hold of a call that is given the ticket and the plan, and so do the table's other verdicts.
+pub verdicts-hold : map asked cases ≡ map (λ (x : Case). told (expected x)) cases
+verdicts-hold = table.verdicts-hold

@@ -1,0 +1,81 @@
+-- `checker::below::most_of_save` meets its contract.
+-- Assumes nothing.
+use borrow.Author.Needs.{needs}
+use Prim.Native.Nat.{_-_}
+use native.Mathlib.Omega.{arith}
+use Rattle.checker.proofs.Turns.{SaveTurn, save-first, save-entry, save-place, save-ahead, save-covers, save-most}
+use Rattle.checker.proofs.below.most_of_save.Statement.{statement}
+use Rattle.checker.proofs.below.most_of_save.Tie as tie
+
+abbrev Inv-loop : tie.InvT-loop
+Inv-loop plan top table floor₀ most₀ i₀ floor most i = SaveTurn plan i floor most
+
+abbrev μ-loop : tie.MeasureT-loop
+μ-loop plan top table floor₀ most₀ i₀ floor most i = i
+
+loop-holds : tie.Need-loop-holds Inv-loop μ-loop
+loop-holds c = save-first _
+
+sub-i : tie.Need-sub-i Inv-loop μ-loop
+sub-i c = search needs
+
+mul-place-of : tie.Need-mul-place-of Inv-loop μ-loop
+mul-place-of c = search needs
+
+shared-slice-read-place-of : tie.Need-shared-slice-read-place-of Inv-loop μ-loop
+shared-slice-read-place-of c = search needs
+
+place-of-requires : tie.Need-place-of-requires Inv-loop μ-loop
+place-of-requires c κs = search needs
+
+cast-larger : tie.Need-cast-larger Inv-loop μ-loop
+cast-larger c = search needs
+
+mul-larger : tie.Need-mul-larger Inv-loop μ-loop
+mul-larger c = omega (arith, save-place (c .before .before .before .before .loop .inv) (c .before .before .before .before .before .before .before .pre) (c .before .before .before .loop-test .taken) (c .before .place-of .ensures) (c .if1 .taken), c .before .before .before .before .before .before .before .pre .long)
+
+shared-slice-read-larger : tie.Need-shared-slice-read-larger Inv-loop μ-loop
+shared-slice-read-larger c = save-place (c .before .before .before .before .before .loop .inv) (c .before .before .before .before .before .before .before .before .pre) (c .before .before .before .before .loop-test .taken) (c .before .before .place-of .ensures) (c .before .if1 .taken)
+
+sub-larger : tie.Need-sub-larger Inv-loop μ-loop
+sub-larger c = omega (arith, save-entry (c .before .before .before .before .before .loop .inv) (c .before .before .before .before .before .before .before .before .pre) (c .before .before .before .before .loop-test .taken) (c .before .before .place-of .ensures) (c .before .if1 .taken))
+
+larger-requires : tie.Need-larger-requires Inv-loop μ-loop
+larger-requires c κs = search needs
+
+loop-less : tie.Need-loop-less Inv-loop μ-loop
+loop-less c = search needs
+
+loop-again : tie.Need-loop-again Inv-loop μ-loop
+loop-again c = save-ahead (c .before .before .before .before .before .before .loop .inv) (c .before .before .before .before .before .before .before .before .before .pre) (c .before .before .before .before .before .loop-test .taken) (c .before .before .before .place-of .ensures) (c .before .before .if1 .taken) (c .larger .ensures)
+
+loop-less-2 : tie.Need-loop-less-2 Inv-loop μ-loop
+loop-less-2 c = search needs
+
+loop-again-2 : tie.Need-loop-again-2 Inv-loop μ-loop
+loop-again-2 c = save-covers (c .before .before .before .before .loop .inv) (c .before .before .before .before .before .before .before .pre) (c .before .before .before .loop-test .taken) (c .before .place-of .ensures) (c .if1 .left)
+
+returns : tie.Need-returns Inv-loop μ-loop
+returns c = save-most (c .before .loop .inv) (c .before .before .before .before .pre) (c .loop-test .left)
+
+pub most-of-save-spec : {M : Type 1} → statement M
+most-of-save-spec =
+    tie.close
+    (tie.spec
+    Inv-loop
+    μ-loop
+    loop-holds
+    sub-i
+    mul-place-of
+    shared-slice-read-place-of
+    place-of-requires
+    cast-larger
+    mul-larger
+    shared-slice-read-larger
+    sub-larger
+    larger-requires
+    loop-less
+    loop-again
+    loop-less-2
+    loop-again-2
+    returns)

@@ -1,0 +1,82 @@
+-- `checker::below::tally` meets its contract.
+-- Assumes nothing.
+use borrow.Author.Needs.{needs}
+use Prim.Native.Nat.{_-_}
+use native.Mathlib.Omega.{arith}
+use mathlib.Core.Path.{sym, _∙_}
+use Rattle.checker.proofs.Adding.{Tallying, tally-first, tally-place, tally-small, tally-next, tallied}
+use Rattle.checker.proofs.below.tally.Statement.{statement}
+use Rattle.checker.proofs.below.tally.Tie as tie
+
+abbrev Inv-loop : tie.InvT-loop
+Inv-loop plan table₀ n i₀ table i = Tallying plan table i
+
+abbrev μ-loop : tie.MeasureT-loop
+μ-loop plan table₀ n i₀ table i = n - i
+
+loop-holds : tie.Need-loop-holds Inv-loop μ-loop
+loop-holds c = tally-first _ _ (c .before .before .pre .0)
+
+mul-place-of : tie.Need-mul-place-of Inv-loop μ-loop
+mul-place-of c = search needs
+
+shared-slice-read-place-of : tie.Need-shared-slice-read-place-of Inv-loop μ-loop
+shared-slice-read-place-of c = search needs
+
+place-of-requires : tie.Need-place-of-requires Inv-loop μ-loop
+place-of-requires c κs = search needs
+
+add-c : tie.Need-add-c Inv-loop μ-loop
+add-c c = omega (arith, tally-place (c .before .before .before .loop .inv) (c .before .before .before .before .before .before .pre .1) (c .before .before .loop-test .taken) (c .place-of .ensures))
+
+mul-table : tie.Need-mul-table Inv-loop μ-loop
+mul-table c = omega (arith, tally-place (c .before .before .before .loop .inv) (c .before .before .before .before .before .before .pre .1) (c .before .before .loop-test .taken) (c .place-of .ensures))
+
+slice-read-table : tie.Need-slice-read-table Inv-loop μ-loop
+slice-read-table c = omega (arith, tally-place (c .before .before .before .before .loop .inv) (c .before .before .before .before .before .before .before .pre .1) (c .before .before .before .loop-test .taken) (c .before .place-of .ensures), c .before .before .before .before .loop .inv .long)
+
+add-table : tie.Need-add-table Inv-loop μ-loop
+add-table c = omega (arith, tally-small (c .before .before .before .before .loop .inv) (c .before .before .before .before .before .before .before .pre .1) (c .before .before .before .loop-test .taken) (c .before .place-of .ensures))
+
+mul-table-2 : tie.Need-mul-table-2 Inv-loop μ-loop
+mul-table-2 c = omega (arith, tally-place (c .before .before .before .before .loop .inv) (c .before .before .before .before .before .before .before .pre .1) (c .before .before .before .loop-test .taken) (c .before .place-of .ensures))
+
+slice-write-table : tie.Need-slice-write-table Inv-loop μ-loop
+slice-write-table c = omega (arith, tally-place (c .before .before .before .before .loop .inv) (c .before .before .before .before .before .before .before .pre .1) (c .before .before .before .loop-test .taken) (c .before .place-of .ensures), c .before .before .before .before .loop .inv .long)
+
+add-i : tie.Need-add-i Inv-loop μ-loop
+add-i c = search needs
+
+loop-less : tie.Need-loop-less Inv-loop μ-loop
+loop-less c = search needs
+
+loop-again : tie.Need-loop-again Inv-loop μ-loop
+loop-again c = tally-next (c .before .before .before .before .loop .inv) (c .before .before .before .before .before .before .before .pre .1) (c .before .before .before .loop-test .taken) (c .before .place-of .ensures)
+
+same-length : tie.Need-same-length Inv-loop μ-loop
+same-length c = c .before .loop .inv .long ∙ sym (c .before .before .before .before .pre .0 .long)
+
+returns : tie.Need-returns Inv-loop μ-loop
+returns c = tallied (c .before .loop .inv) (c .loop-test .left)
+
+pub tally-spec : {M : Type 1} → statement M
+tally-spec =
+    tie.close
+    (tie.spec
+    Inv-loop
+    μ-loop
+    loop-holds
+    mul-place-of
+    shared-slice-read-place-of
+    place-of-requires
+    add-c
+    mul-table
+    slice-read-table
+    add-table
+    mul-table-2
+    slice-write-table
+    add-i
+    loop-less
+    loop-again
+    same-length
+    returns)

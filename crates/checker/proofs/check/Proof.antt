@@ -1,0 +1,41 @@
+-- `checker::check` meets its contract.
+-- Assumes nothing.
+use Rattle.checker.proofs.Accepts.{contract}
+use Rattle.ticket.proofs.Answers.{list-fits, list-read}
+use Rattle.checker.proofs.Answers.{ticket-refused}
+use borrow.Author.Needs.{needs}
+use Rattle.checker.proofs.check.Statement.{statement}
+use Rattle.checker.proofs.check.Tie as tie
+
+parse-requires : tie.Need-parse-requires
+parse-requires c κs = search needs
+
+enum-known-answer : tie.Need-enum-known-answer
+enum-known-answer c = search needs
+
+enum-known-answer-2 : tie.Need-enum-known-answer-2
+enum-known-answer-2 c = search needs
+
+slice-aggregate-check-list : tie.Need-slice-aggregate-check-list
+slice-aggregate-check-list c = search needs
+
+check-list-requires : tie.Need-check-list-requires
+check-list-requires c κs = list-fits _ (c .before .before .before .before .before .parse .result) (c .before .before .before .before .before .parse .ensures) (c .before .before .answer2 .given .0 .0) (c .before .before .answer2 .given .1)
+
+returns : tie.Need-returns
+returns c = contract _ _ _ (ticket-refused _ (c .before .before .before .before .parse .result) (c .before .before .before .before .parse .ensures) (c .before .answer .given .0 .0) _ (c .before .answer .given .1))
+
+returns-2 : tie.Need-returns-2
+returns-2 c = contract _ _ _ (rw (list-read _ (c .before .before .before .before .before .before .parse .result) (c .before .before .before .before .before .before .parse .ensures) (c .before .before .before .answer2 .given .0 .0) (c .before .before .before .answer2 .given .1)) (c .check-list .ensures))
+
+pub check-spec : {M : Type 1} → statement M
+check-spec =
+    tie.close
+    (tie.spec
+    parse-requires
+    enum-known-answer
+    enum-known-answer-2
+    slice-aggregate-check-list
+    check-list-requires
+    returns
+    returns-2)

@@ -1,0 +1,91 @@
+-- `checker::frames::first_fault` meets its contract.
+-- Assumes nothing.
+use borrow.Author.Tests.{not-true, not-false}
+use borrow.Author.Needs.{needs}
+use Prim.Native.Nat.{_-_}
+use mathlib.Core.Path.{sym, _∙_}
+use native.Mathlib.Omega.{arith}
+use Rattle.checker.proofs.Judged.{Frames, frames-first, card-inside, none-after, first-fault, next-frame, no-fault}
+use Rattle.checker.proofs.frames.first_fault.Statement.{statement}
+use Rattle.checker.proofs.frames.first_fault.Tie as tie
+
+abbrev Inv-loop : tie.InvT-loop
+Inv-loop save roomy cards plan m latest₀ n i₀ latest i = Frames save m cards plan latest i
+
+abbrev μ-loop : tie.MeasureT-loop
+μ-loop save roomy cards plan m latest₀ n i₀ latest i = n - i
+
+loop-holds : tie.Need-loop-holds Inv-loop μ-loop
+loop-holds c = frames-first _ _ _ _
+
+shared-slice-read-card-place : tie.Need-shared-slice-read-card-place Inv-loop μ-loop
+shared-slice-read-card-place c = search needs
+
+card-place-requires : tie.Need-card-place-requires Inv-loop μ-loop
+card-place-requires c κs = search needs
+
+mul-late : tie.Need-mul-late Inv-loop μ-loop
+mul-late c = omega (arith, card-inside (c .before .before .before .loop .inv) (c .before .before .before .before .before .before .pre .0) (c .before .before .loop-test .taken) (c .card-place .ensures))
+
+array-read-late : tie.Need-array-read-late Inv-loop μ-loop
+array-read-late c = card-inside (c .before .before .before .loop .inv) (c .before .before .before .before .before .before .pre .0) (c .before .before .loop-test .taken) (c .card-place .ensures)
+
+mul-larger : tie.Need-mul-larger Inv-loop μ-loop
+mul-larger c = search needs
+
+shared-slice-read-larger : tie.Need-shared-slice-read-larger Inv-loop μ-loop
+shared-slice-read-larger c = omega (arith, c .before .before .before .before .before .before .before .pre .0 .same-length)
+
+larger-requires : tie.Need-larger-requires Inv-loop μ-loop
+larger-requires c κs = search needs
+
+mul-latest : tie.Need-mul-latest Inv-loop μ-loop
+mul-latest c = omega (arith, card-inside (c .before .before .before .before .before .loop .inv) (c .before .before .before .before .before .before .before .before .pre .0) (c .before .before .before .before .loop-test .taken) (c .before .before .card-place .ensures))
+
+array-write-latest : tie.Need-array-write-latest Inv-loop μ-loop
+array-write-latest c = card-inside (c .before .before .before .before .before .loop .inv) (c .before .before .before .before .before .before .before .before .pre .0) (c .before .before .before .before .loop-test .taken) (c .before .before .card-place .ensures)
+
+frame-requires : tie.Need-frame-requires Inv-loop μ-loop
+frame-requires c κs = (c .before .before .before .before .before .before .before .before .pre .0, c .before .before .before .before .loop-test .taken, none-after (c .before .before .before .before .before .loop .inv) (c .before .before .before .before .before .before .before .before .pre .0) (c .before .before .before .before .loop-test .taken) (c .before .before .card-place .ensures), c .before .before .before .before .before .before .before .before .pre .1)
+
+add-i : tie.Need-add-i Inv-loop μ-loop
+add-i c = search needs
+
+is-valid-requires : tie.Need-is-valid-requires Inv-loop μ-loop
+is-valid-requires c κs = search needs
+
+returns : tie.Need-returns Inv-loop μ-loop
+returns c = first-fault (c .before .before .before .before .before .before .before .before .loop .inv) (c .before .before .before .before .before .before .before .before .before .before .before .pre .0) (c .before .before .before .before .before .before .before .loop-test .taken) (c .before .before .before .before .before .card-place .ensures) (c .before .before .frame .ensures) (sym (c .before .is-valid .ensures) ∙ not-true _ (c .if1 .taken))
+
+loop-less : tie.Need-loop-less Inv-loop μ-loop
+loop-less c = search needs
+
+loop-again : tie.Need-loop-again Inv-loop μ-loop
+loop-again c = next-frame (c .before .before .before .before .before .before .before .before .loop .inv) (c .before .before .before .before .before .before .before .before .before .before .before .pre .0) (c .before .before .before .before .before .before .before .loop-test .taken) (c .before .before .before .before .before .card-place .ensures) (c .before .before .frame .ensures) (sym (c .before .is-valid .ensures) ∙ not-false _ (c .if1 .left)) (c .before .before .before .larger .ensures)
+
+returns-2 : tie.Need-returns-2 Inv-loop μ-loop
+returns-2 c = no-fault (c .before .loop .inv) (c .before .before .before .before .pre .0) (c .loop-test .left)
+
+pub first-fault-spec : {M : Type 1} → statement M
+first-fault-spec =
+    tie.close
+    (tie.spec
+    Inv-loop
+    μ-loop
+    loop-holds
+    shared-slice-read-card-place
+    card-place-requires
+    mul-late
+    array-read-late
+    mul-larger
+    shared-slice-read-larger
+    larger-requires
+    mul-latest
+    array-write-latest
+    frame-requires
+    add-i
+    is-valid-requires
+    returns
+    loop-less
+    loop-again
+    returns-2)

@@ -1,0 +1,49 @@
+-- `checker::frames::frame` meets its contract.
+-- Assumes nothing.
+use mathlib.Core.Path.{sym, _∙_}
+use native.Mathlib.Omega.{arith}
+use Rattle.checker.proofs.Judged.{says-no-cycle, says-shared, says-overfull, says-clear}
+use borrow.Author.Needs.{needs}
+use Rattle.checker.proofs.frames.frame.Statement.{statement}
+use Rattle.checker.proofs.frames.frame.Tie as tie
+
+cast-if1 : tie.Need-cast-if1
+cast-if1 c = search needs
+
+mul-if1 : tie.Need-mul-if1
+mul-if1 c = search needs
+
+shared-slice-read-if1 : tie.Need-shared-slice-read-if1
+shared-slice-read-if1 c = search needs
+
+returns : tie.Need-returns
+returns c = says-no-cycle _ _ _ _ _ (c .if1 .taken)
+
+shares-card-requires : tie.Need-shares-card-requires
+shares-card-requires c κs = (c .before .before .before .before .pre .1, c .before .before .before .before .pre .0 .same-length, c .before .before .before .before .pre .2)
+
+returns-2 : tie.Need-returns-2
+returns-2 c = says-shared _ _ _ _ _ (c .before .before .if1 .left) (sym (c .before .shares-card .ensures) ∙ c .if2 .taken)
+
+overfull-requires : tie.Need-overfull-requires
+overfull-requires c κs = (omega (arith, c .before .before .before .before .before .before .pre .1, c .before .before .before .before .before .before .pre .0 .same-length), omega (arith, c .before .before .before .before .before .before .pre .0 .few, c .before .before .before .before .before .before .pre .0 .same-length), c .before .before .before .before .before .before .pre .3)
+
+returns-3 : tie.Need-returns-3
+returns-3 c = says-overfull _ _ _ _ _ (c .before .before .before .before .if1 .left) (sym (c .before .before .before .shares-card .ensures) ∙ c .before .before .if2 .left) (sym (c .before .overfull .ensures) ∙ c .if3 .taken)
+
+returns-4 : tie.Need-returns-4
+returns-4 c = says-clear _ _ _ _ _ (c .before .before .before .before .if1 .left) (sym (c .before .before .before .shares-card .ensures) ∙ c .before .before .if2 .left) (sym (c .before .overfull .ensures) ∙ c .if3 .left)
+
+pub frame-spec : {M : Type 1} → statement M
+frame-spec =
+    tie.close
+    (tie.spec
+    cast-if1
+    mul-if1
+    shared-slice-read-if1
+    returns
+    shares-card-requires
+    returns-2
+    overfull-requires
+    returns-3
+    returns-4)

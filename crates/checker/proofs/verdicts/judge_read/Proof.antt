@@ -1,0 +1,40 @@
+-- `checker::verdicts::judge_read` meets its contract.
+-- Assumes nothing.
+use Rattle.checker.proofs.Whole.{zeroed, roomy-read, low-plan, read-judged}
+use mathlib.Core.Path.{_∙_}
+use borrow.Author.Needs.{needs}
+use Rattle.checker.proofs.verdicts.judge_read.Statement.{statement}
+use Rattle.checker.proofs.verdicts.judge_read.Tie as tie
+
+slice-aggregate-fill : tie.Need-slice-aggregate-fill
+slice-aggregate-fill c = search needs
+
+fill-requires : tie.Need-fill-requires
+fill-requires c κs = (zeroed, low-plan (c .before .before .before .pre .0) (c .before .before .before .pre .1) (c .before .before .before .pre .2))
+
+slice-aggregate-most-of-read : tie.Need-slice-aggregate-most-of-read
+slice-aggregate-most-of-read c = search needs
+
+most-of-read-requires : tie.Need-most-of-read-requires
+most-of-read-requires c κs = search needs
+
+first-fault-requires : tie.Need-first-fault-requires
+first-fault-requires c κs = (c .before .before .before .before .before .before .before .before .pre .0, roomy-read (c .before .most-of-read .ensures .0))
+
+complete-requires : tie.Need-complete-requires
+complete-requires c κs = search needs
+
+returns : tie.Need-returns
+returns c = c .complete .ensures ∙ read-judged (c .before .before .before .before .before .before .before .before .before .before .pre .0) (c .before .before .before .before .before .before .before .before .before .before .pre .1) _ (c .before .first-fault .result) (c .before .before .before .most-of-read .ensures .1) (c .before .first-fault .ensures)
+
+pub judge-read-spec : {M : Type 1} → statement M
+judge-read-spec =
+    tie.close
+    (tie.spec
+    slice-aggregate-fill
+    fill-requires
+    slice-aggregate-most-of-read
+    most-of-read-requires
+    first-fault-requires
+    complete-requires
+    returns)

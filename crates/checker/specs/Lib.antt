@@ -1,0 +1,4 @@
+pub mod Check
+pub mod Exact
+pub mod Cases
+pub mod Parts

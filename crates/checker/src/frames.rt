@@ -1,0 +1,122 @@
+// The faults of a plan, frame by frame in list order.
+ghost use mathlib.Core.Path.{_≡_};
+ghost use mathlib.Core.Bool.{true};
+ghost use Prim.Native.Nat.{_≤_, _<_};
+ghost use lib.ListN.{length};
+ghost use lib.Dec.{leb};
+ghost use Rattle.header.specs.Limits.{maxFrames};
+ghost use Rattle.schedule.specs.Verdict.{shares};
+ghost use Rattle.checker.specs.Check.{isValid};
+ghost use Rattle.checker.specs.Parts.{Checking, NoneAfter, Roomy, backlogOf, frameVerdict, firstFault};
+use crate::Verdict;
+use crate::backlog;
+use schedule::Cycle;
+use schedule::Position;
+
+fn card_place(card: u8) -> usize
+    ensures { λ r. ⌜ r ≡ card ⌝ }
+{
+    card as usize
+}
+
+// Whether an earlier frame of the same card has frame i's cycle.
+fn shared(cards: &[u8], plan: &[u16], i: usize) -> bool
+    requires { ⌜ (i < length (now cards)) × (length (now plan) ≡ length (now cards)) ⌝ }
+    ensures { λ r. ⌜ r ≡ shares (now (cards .entry)) (now (plan .entry)) i ⌝ }
+{
+    let card = cards[i];
+    let cycle = plan[i];
+    let mut j: usize = 0;
+    while j < i {
+        let k = j;
+        j += 1;
+        if plan[k] == cycle {
+            if cards[k] == card {
+                return true;
+            }
+        }
+    }
+    false
+}
+
+// The same, where no earlier frame of the card has a cycle after `latest`: most frames need no search.
+fn shares_card(cards: &[u8], plan: &[u16], i: usize, latest: u16) -> bool
+    requires { ⌜ (i < length (now cards)) × (length (now plan) ≡ length (now cards)) × NoneAfter (now cards) (now plan) i latest ⌝ }
+    ensures { λ r. ⌜ r ≡ shares (now (cards .entry)) (now (plan .entry)) i ⌝ }
+{
+    if latest < plan[i] {
+        return false;
+    }
+    shared(cards, plan, i)
+}
+
+// Whether too many frames are in the pool with frame i. They are counted unless the plan is known to be roomy.
+fn overfull(save: bool, roomy: bool, plan: &[u16], m: u16, i: usize) -> bool
+    requires { ⌜ (i < length (now plan)) × (length (now plan) ≤ maxFrames) × (roomy ≡ true → Roomy save m (now plan)) ⌝ }
+    ensures { λ r. ⌜ r ≡ leb m (backlogOf save (now (plan .entry)) i) ⌝ }
+{
+    if roomy {
+        return false;
+    }
+    m <= backlog::backlog(save, plan, i)
+}
+
+// The verdict on frame i; a valid one has no T and no peak yet.
+fn frame(
+    save: bool,
+    roomy: bool,
+    cards: &[u8],
+    plan: &[u16],
+    m: u16,
+    i: usize,
+    latest: u16,
+) -> Verdict
+    requires { ⌜ Checking (now cards) (now plan) × (i < length (now cards)) × NoneAfter (now cards) (now plan) i latest × (roomy ≡ true → Roomy save m (now plan)) ⌝ }
+    ensures { λ r. ⌜ r ≡ frameVerdict save m (now (cards .entry)) (now (plan .entry)) i ⌝ }
+{
+    let p = Position(i as u16);
+    if plan[i] == 0 {
+        return Verdict::NoCycle(p);
+    }
+    if shares_card(cards, plan, i, latest) {
+        return Verdict::SharedCard(p);
+    }
+    if overfull(save, roomy, plan, m, i) {
+        return Verdict::Overfull(p);
+    }
+    Verdict::Valid(Cycle(0), 0)
+}
+
+pub(crate) fn is_valid(v: Verdict) -> bool
+    ensures { λ r. ⌜ r ≡ isValid v ⌝ }
+{
+    match v {
+        Verdict::Valid(_, _) => true,
+        Verdict::NoCycle(_) => false,
+        Verdict::SharedCard(_) => false,
+        Verdict::Overfull(_) => false,
+        Verdict::Refused(_) => false,
+    }
+}
+
+// The first fault of the list; a valid verdict has no T and no peak yet.
+//   latest[c]   no earlier frame of card c has a cycle after this one
+pub(crate) fn first_fault(save: bool, roomy: bool, cards: &[u8], plan: &[u16], m: u16) -> Verdict
+    requires { ⌜ Checking (now cards) (now plan) × (roomy ≡ true → Roomy save m (now plan)) ⌝ }
+    ensures { λ r. ⌜ r ≡ firstFault save m (now (cards .entry)) (now (plan .entry)) ⌝ }
+{
+    let mut latest = [0u16; 32];
+    let n = cards.len();
+    let mut i: usize = 0;
+    while i < n {
+        let c = card_place(cards[i]);
+        let late = latest[c];
+        latest[c] = schedule::larger(late, plan[i]);
+        let v = frame(save, roomy, cards, plan, m, i, late);
+        i += 1;
+        if !is_valid(v) {
+            return v;
+        }
+    }
+    Verdict::Valid(Cycle(0), 0)
+}

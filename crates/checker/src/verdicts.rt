@@ -1,0 +1,79 @@
+// The verdict on a plan: its first fault, or T and the peak.
+ghost use mathlib.Core.Path.{_≡_};
+ghost use Prim.Native.Nat.{ℕ, _≤_, _<_};
+ghost use mathlib.Core.Bool.{true, false};
+ghost use lib.ListN.{length};
+ghost use Rattle.schedule.specs.Schedule.{cyclesIn};
+ghost use Rattle.schedule.specs.Verdict.{valid, judgeFrom};
+ghost use Rattle.header.specs.Limits.{maxFrames};
+ghost use Rattle.checker.specs.Check.{answerOf, verdictOn, completed};
+ghost use Rattle.checker.specs.Parts.{Checking, backlogOf};
+use crate::Verdict;
+use crate::below;
+use crate::frames;
+use crate::peak;
+use header::limits;
+use schedule::Cycle;
+
+// A valid verdict gets its T and peak; a fault stays.
+fn complete(v: Verdict, top: u16, peak: u16) -> Verdict
+    ensures { λ r. ⌜ r ≡ completed v top peak ⌝ }
+{
+    if frames::is_valid(v) {
+        Verdict::Valid(Cycle(top), peak)
+    } else {
+        v
+    }
+}
+
+// A plan whose cycles are up to 4,096: the pool rule and the peak from a table.
+fn judge_read(cards: &[u8], plan: &[u16], m: u16, top: u16) -> Verdict
+    requires { ⌜ Checking (now cards) (now plan) × (top ≡ cyclesIn (now plan)) × (top ≤ maxFrames) ⌝ }
+    ensures { λ r. ⌜ r ≡ answerOf (verdictOn false m (now (cards .entry)) (now (plan .entry))) ⌝ }
+{
+    let mut table = [0u16; 4098];
+    below::fill(plan, top, &mut table);
+    let most = below::most_of_read(plan, top, &table);
+    let v = frames::first_fault(false, most.backlog < m, cards, plan, m);
+    complete(v, top, most.before)
+}
+
+fn judge_save(cards: &[u8], plan: &[u16], m: u16, top: u16) -> Verdict
+    requires { ⌜ Checking (now cards) (now plan) × (top ≡ cyclesIn (now plan)) × (top ≤ maxFrames) ⌝ }
+    ensures { λ r. ⌜ r ≡ answerOf (verdictOn true m (now (cards .entry)) (now (plan .entry))) ⌝ }
+{
+    let mut table = [0u16; 4098];
+    below::fill(plan, top, &mut table);
+    let most = below::most_of_save(plan, top, &table);
+    let v = frames::first_fault(true, most < m, cards, plan, m);
+    complete(v, top, 0)
+}
+
+// A plan with larger cycles: every pool is counted.
+fn judge_large(save: bool, cards: &[u8], plan: &[u16], m: u16, top: u16) -> Verdict
+    requires { ⌜ Checking (now cards) (now plan) × (top ≡ cyclesIn (now plan)) ⌝ }
+    ensures { λ r. ⌜ r ≡ answerOf (verdictOn save m (now (cards .entry)) (now (plan .entry))) ⌝ }
+{
+    let v = frames::first_fault(save, false, cards, plan, m);
+    if !frames::is_valid(v) {
+        return v;
+    }
+    if save {
+        return Verdict::Valid(Cycle(top), 0);
+    }
+    Verdict::Valid(Cycle(top), peak::counted(plan))
+}
+
+pub(crate) fn judge(save: bool, cards: &[u8], plan: &[u16], m: u16) -> Verdict
+    requires { ⌜ Checking (now cards) (now plan) ⌝ }
+    ensures { λ r. ⌜ r ≡ answerOf (verdictOn save m (now (cards .entry)) (now (plan .entry))) ⌝ }
+{
+    let top = schedule::cycles_in(plan);
+    if limits::MAX_FRAMES < top {
+        return judge_large(save, cards, plan, m, top);
+    }
+    if save {
+        return judge_save(cards, plan, m, top);
+    }
+    judge_read(cards, plan, m, top)
+}
