@@ -1,0 +1,12 @@
+pub mod Main
+pub mod Driving
+pub mod Starting
+pub mod Placing
+pub mod EndStep
+pub mod ReadStep
+pub mod DropStep
+pub mod Frames
+pub mod Rules
+pub mod HandOver
+pub mod Marks
+pub mod Counting

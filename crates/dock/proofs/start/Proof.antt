@@ -1,0 +1,57 @@
+-- `dock::start` meets its contract.
+-- Assumes nothing.
+use Rattle.dock.proofs.Starting.{ticket-refused}
+use Rattle.ticket.proofs.Answers.{list-fits, list-read}
+use borrow.Author.Needs.{needs}
+use Rattle.dock.proofs.start.Statement.{statement}
+use Rattle.dock.proofs.start.Tie as tie
+
+parse-requires : tie.Need-parse-requires
+parse-requires c κs = search needs
+
+enum-known-answer : tie.Need-enum-known-answer
+enum-known-answer c = search needs
+
+refused-requires : tie.Need-refused-requires
+refused-requires c κs = search needs
+
+enum-known-answer-2 : tie.Need-enum-known-answer-2
+enum-known-answer-2 c = search needs
+
+slice-aggregate-start-list : tie.Need-slice-aggregate-start-list
+slice-aggregate-start-list c = search needs
+
+start-list-requires : tie.Need-start-list-requires
+start-list-requires c κs =
+    let p = c .before .before .before .before .before .before .parse in
+    let a = c .before .before .before .answer2 .given in
+    list-fits _ (p .result) (p .ensures) (a .0 .0) (a .1)
+
+returns : tie.Need-returns
+returns c =
+    let p = c .before .before .before .before .before .parse in
+    let a = c .before .before .answer .given in
+    ticket-refused _ (p .result) (p .ensures) (a .0 .0) (a .1) _ (c .refused .ensures) _
+
+same-length : tie.Need-same-length
+same-length c = search needs
+
+returns-2 : tie.Need-returns-2
+returns-2 c =
+    let p = c .before .before .before .before .before .before .before .before .before .parse in
+    let a = c .before .before .before .before .before .before .answer2 .given in
+    rw (list-read _ (p .result) (p .ensures) (a .0 .0) (a .1)) (c .before .before .start-list .ensures)
+
+pub start-spec : {M : Type 1} → statement M
+start-spec =
+    tie.close
+    (tie.spec
+    parse-requires
+    enum-known-answer
+    refused-requires
+    enum-known-answer-2
+    slice-aggregate-start-list
+    start-list-requires
+    returns
+    same-length
+    returns-2)

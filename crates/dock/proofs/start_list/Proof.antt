@@ -1,0 +1,45 @@
+-- `dock::start_list` meets its contract.
+-- Assumes nothing.
+use Rattle.dock.proofs.Starting.{too-short, started}
+use borrow.Author.Needs.{needs}
+use Rattle.dock.proofs.start_list.Statement.{statement}
+use Rattle.dock.proofs.start_list.Tie as tie
+
+cast-n : tie.Need-cast-n
+cast-n c = search needs
+
+refused-requires : tie.Need-refused-requires
+refused-requires c κs = search needs
+
+returns : tie.Need-returns
+returns c = too-short _ _ _ (c .before .before .before .before .before .pre) (c .before .if1 .taken) _ (c .refused .ensures)
+
+slice-aggregate-place : tie.Need-slice-aggregate-place
+slice-aggregate-place c = search needs
+
+place-requires : tie.Need-place-requires
+place-requires c κs = search needs
+
+empty-requires : tie.Need-empty-requires
+empty-requires c κs = search needs
+
+same-length : tie.Need-same-length
+same-length c = search needs
+
+returns-2 : tie.Need-returns-2
+returns-2 c =
+    let s = c .before .before .before .before .before .before in
+    started _ _ _ (s .before .before .before .before .pre) (s .if1 .left) _ (c .empty .ensures) _ (c .before .before .before .place .ensures)
+
+pub start-list-spec : {M : Type 1} → statement M
+start-list-spec =
+    tie.close
+    (tie.spec
+    cast-n
+    refused-requires
+    returns
+    slice-aggregate-place
+    place-requires
+    empty-requires
+    same-length
+    returns-2)

@@ -1,0 +1,101 @@
+-- The dock as code (document 01, "The dock"): a small record that goes by value, and a lent byte for each frame. `Shows` says which dock of
+-- the model (crates/schedule/specs/Dock.antt) a record and its memory are; what one call does is said by `Drove`.
+-- Assumes nothing.
+use Prim.Native.Nat.{ℕ, _+_, _≤_, _<_, min}
+use mathlib.Core.Path.{_≡_}
+use mathlib.Core.Bool.{Bool, true, false, not, cond}
+use mathlib.Core.List.{List, [], _∷_, _++_}
+use lib.Dec.{ltb}
+use lib.ListN.{length, getD, drop, replicate}
+use Rattle.schedule.specs.Count.{written}
+use Rattle.schedule.specs.Schedule.{cardOf}
+use Rattle.schedule.specs.Dock.{emptyDock, isIn, isEmpty, holding, readFrame, dropFrame, endCycle, Step as ModelStep, Dock as ModelDock}
+use Rattle.schedule.specs.Dock as model
+use Rattle.header.specs.Limits.{maxCards, maxFrames}
+use Rattle.ticket.specs.Ticket.{Parsed, accepted, refused}
+use Rattle.dock.specs.declared.Dock.{Dock}
+use Rattle.dock.specs.declared.Step.{Step}
+use Rattle.dock.specs.declared.Step.the-variants.{Read, Drop, End}
+use Rattle.dock.specs.declared.Driven.{Driven as Answer}
+
+-- the most cycles that a record counts; the count then stays there
+abbrev pub mostCycles : ℕ
+mostCycles = 4294967295
+
+-- a step of the code as a step of the model
+abbrev pub stepOf : Step → ModelStep
+stepOf (Read p) = readFrame (p .0)
+stepOf (Drop p) = dropFrame (p .0)
+stepOf End = endCycle
+
+-- a frame's byte: its card, and 128 more while the frame is held
+abbrev pub mark : List ℕ → (ℕ → Bool) → ℕ → ℕ
+mark cards held i = cardOf cards i + cond (held i) 128 0
+
+-- The record and the memory show the model's dock d, for a pool of m and the list of cards.
+pub record Shows (m : ℕ) (cards : List ℕ) (d : ModelDock) (dock : Dock) (memory : List ℕ) : Type 0 where
+  pub frames : dock .frames ≡ length cards
+  pub pool : dock .pool ≡ m
+  pub delivered : dock .delivered ≡ d .delivered
+  pub holds : dock .holding ≡ holding cards d
+  pub ended : dock .ended ≡ min (d .ended) mostCycles
+  pub broken : dock .broken ≡ d .broken
+  pub reading : dock .reading ≡ not (isEmpty (d .busy))
+  pub busy : (c : ℕ) → c < maxCards → getD (dock .busy) c false ≡ isIn c (d .busy)
+  -- a byte for each frame
+  pub room : length cards ≤ length memory
+  pub marks : (i : ℕ) → i < length cards → getD memory i 0 ≡ mark cards (d .held) i
+  -- a list within the limits, and a dock that holds only frames which are still to be handed over
+  pub few : length cards ≤ maxFrames
+  pub each-card : (i : ℕ) → i < length cards → cardOf cards i < maxCards
+  pub inside : d .delivered ≤ length cards
+  pub ahead : (i : ℕ) → i < length cards → d .held i ≡ true → d .delivered ≤ i
+
+-- One call of `drive`: the dock and the memory before it, the step, the answer, and the memory after it.
+pub record Drove (dock : Dock) (step : Step) (before : List ℕ) (r : Answer) (after : List ℕ) : Type 0 where
+  -- Whichever dock of the model is shown before the call: the model's step of it is shown after the call.
+  pub follows :
+      (m : ℕ) (cards : List ℕ) (d : ModelDock) → Shows m cards d dock before
+      → (r .refusal ≡ 0) × Shows m cards (model.step m cards (stepOf step) d) (r .dock) after
+  -- Lent memory with fewer than L places is refused by 10, and nothing changes.
+  pub short : length before < dock .frames → (r ≡ record { refusal = 10; dock = dock }) × (after ≡ before)
+  -- Places past the list keep their content, whatever was handed in.
+  pub past : drop (dock .frames) after ≡ drop (dock .frames) before
+
+-- Calls of `drive` one after the other, from a dock and memory that show the empty dock: the steps so far, and the dock and the memory now.
+pub data Driving (m : ℕ) (cards : List ℕ) : List ModelStep → Dock → List ℕ → Type 0 where
+  begin : (dock : Dock) (memory : List ℕ) → Shows m cards emptyDock dock memory → Driving m cards [] dock memory
+  next :
+      (steps : List ModelStep) (dock : Dock) (before : List ℕ) (a : Step) (r : Answer) (after : List ℕ)
+      → Driving m cards steps dock before → Drove dock a before r after → Driving m cards (steps ++ (stepOf a ∷ [])) (r .dock) after
+
+-- "At the start it is empty: no frame handed over or held, no read, no cycle ended, not broken off."
+abbrev pub newDock : ℕ → ℕ → Dock
+newDock m frames =
+    record {
+      frames = frames;
+      pool = m;
+      delivered = 0;
+      holding = 0;
+      ended = 0;
+      broken = false;
+      reading = false;
+      busy = replicate maxCards false;
+    }
+
+-- What `start` answers: the ticket's own refusal, then 10 where lent memory has fewer than L places; beside a refusal a dock of zeros.
+unfoldable pub startOf : Parsed → ℕ → Answer
+startOf (accepted h cards) places =
+    cond (ltb places (length cards)) (record { refusal = 10; dock = newDock 0 0 }) (record { refusal = 0; dock = newDock (h .pool) (length cards) })
+startOf (refused k) places = record { refusal = k; dock = newDock 0 0 }
+
+-- The memory after `start`: each frame's card, none held; later places keep their content, and a refusal changes nothing.
+unfoldable pub memoryAfter : Parsed → List ℕ → List ℕ
+memoryAfter (accepted h cards) before = cond (ltb (length before) (length cards)) before (written cards before)
+memoryAfter (refused k) before = before
+
+-- What one step does behind `drive`, where memory has a place for each frame.
+pub record Advanced (dock : Dock) (step : ModelStep) (before : List ℕ) (r : Dock) (after : List ℕ) : Type 0 where
+  pub follows : (m : ℕ) (cards : List ℕ) (d : ModelDock) → Shows m cards d dock before → Shows m cards (model.step m cards step d) r after
+  pub past : drop (dock .frames) after ≡ drop (dock .frames) before
+  pub same-length : length after ≡ length before
