@@ -1,0 +1,18 @@
+-- `replay::cycle::next_after` meets its contract.
+-- Assumes nothing.
+use Rattle.replay.proofs.Cycles.{next-kept}
+use borrow.Author.Needs.{needs}
+use Rattle.replay.proofs.cycle.next_after.Statement.{statement}
+use Rattle.replay.proofs.cycle.next_after.Tie as tie
+
+next-cycle-requires : tie.Need-next-cycle-requires
+next-cycle-requires c κs = search needs
+
+returns : tie.Need-returns
+returns c = next-kept (c .if1 .taken) (c .before .before .pre)
+
+returns-2 : tie.Need-returns-2
+returns-2 c = search needs
+
+pub next-after-spec : {M : Type 1} → statement M
+next-after-spec = tie.close (tie.spec next-cycle-requires returns returns-2)

@@ -1,0 +1,61 @@
+-- `replay::cycle::next_cycle` meets its contract.
+-- Assumes nothing.
+use Prim.Native.Nat.{_≤_, _<_, _-_}
+use mathlib.Core.Path.{_≡_}
+use native.Mathlib.Omega.{arith}
+use lib.ListN.{length}
+use Rattle.replay.specs.Progress.{lastCycle, NoneBetween}
+use Rattle.replay.proofs.Cycles.{none-between-next}
+use borrow.Author.Needs.{needs}
+use Rattle.replay.proofs.cycle.next_cycle.Statement.{statement}
+use Rattle.replay.proofs.cycle.next_cycle.Tie as tie
+
+abbrev Inv-loop : tie.InvT-loop
+Inv-loop plan t next₀ i₀ next i = (i ≤ length plan) × NoneBetween plan i t next × (t < lastCycle → t < next)
+
+abbrev μ-loop : tie.MeasureT-loop
+μ-loop plan t next₀ i₀ next i = length plan - i
+
+loop-holds : tie.Need-loop-holds Inv-loop μ-loop
+loop-holds c = (omega arith, λ i l. absurd (omega arith), λ l. l)
+
+mul-sooner : tie.Need-mul-sooner Inv-loop μ-loop
+mul-sooner c = search needs
+
+shared-slice-read-sooner : tie.Need-shared-slice-read-sooner Inv-loop μ-loop
+shared-slice-read-sooner c = search needs
+
+sooner-requires : tie.Need-sooner-requires Inv-loop μ-loop
+sooner-requires c κs = search needs
+
+add-i : tie.Need-add-i Inv-loop μ-loop
+add-i c = search needs
+
+loop-less : tie.Need-loop-less Inv-loop μ-loop
+loop-less c = search needs
+
+loop-again : tie.Need-loop-again Inv-loop μ-loop
+loop-again c =
+    let l = c .before .before .before .loop in
+    (omega arith, none-between-next (c .before .before .before .before .before .args .plan .now) _ _ _ _ (l .inv .1) (c .sooner .ensures .0) (c .sooner .ensures .1), λ k. c .sooner .ensures .2 (l .inv .2 k))
+
+returns : tie.Need-returns Inv-loop μ-loop
+returns c =
+    let l = c .before .loop in
+    let e : l .i ≡ length (c .before .before .before .args .plan .now) = omega arith in
+    record { none-between = rw e at (l .inv .1); after = l .inv .2 }
+
+pub next-cycle-spec : {M : Type 1} → statement M
+next-cycle-spec =
+    tie.close
+    (tie.spec
+    Inv-loop
+    μ-loop
+    loop-holds
+    mul-sooner
+    shared-slice-read-sooner
+    sooner-requires
+    add-i
+    loop-less
+    loop-again
+    returns)
