@@ -1,0 +1,10 @@
+pub mod Once
+pub mod Told
+pub mod Logs
+pub mod Steps
+pub mod Left
+pub mod Times
+pub mod Next
+pub mod Places
+pub mod Snoc
+pub mod Saves
