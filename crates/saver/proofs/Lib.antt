@@ -1,0 +1,13 @@
+pub mod Tables
+pub mod Sorting
+pub mod Opening
+pub mod Answers
+pub mod Forming
+pub mod Following
+pub mod Saving
+pub mod Runs
+pub mod AnyCalls
+pub mod ListSaved
+pub mod Whole
+pub mod Cases
+pub mod Main
