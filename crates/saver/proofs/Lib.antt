@@ -1,3 +1,4 @@
+pub mod Cases
 pub mod Tables
 pub mod Sorting
 pub mod Opening
@@ -9,5 +10,4 @@ pub mod Runs
 pub mod AnyCalls
 pub mod ListSaved
 pub mod Whole
-pub mod Cases
 pub mod Main

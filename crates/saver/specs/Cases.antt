@@ -25,8 +25,9 @@ cases =
     ∷ record { pool = 1; calls = savedAndClosed (0 ∷ 0 ∷ 1 ∷ []) 1; expected = (0 ∷ none ∷ []) ∷ (1 ∷ none ∷ []) ∷ (none ∷ 2 ∷ []) ∷ [] }
     -- a full pool makes no cycle until a further frame comes: nothing is written
     ∷ record { pool = 2; calls = savedAndClosed (0 ∷ 1 ∷ []) 0; expected = [] }
-    -- a closing cycle too many writes nothing; neither does a save after closing has begun, nor one on a card that is not there
-    ∷ record { pool = 2; calls = save 0 ∷ save 2 ∷ close ∷ close ∷ save 0 ∷ []; expected = (0 ∷ none ∷ []) ∷ [] }
+    -- a save on a card that is not there is refused and uses up no position; a closing cycle too many writes nothing, and neither does a save
+    -- after closing has begun
+    ∷ record { pool = 2; calls = save 0 ∷ save 2 ∷ save 1 ∷ close ∷ close ∷ save 0 ∷ []; expected = (0 ∷ 1 ∷ []) ∷ [] }
     ∷ []
 
 -- the numbers of the refusals that some calls give, one after the other; 0 for none
