@@ -1,7 +1,7 @@
 -- A pool of four frames and the log of a plan, computed.
 -- Assumes nothing.
 use mathlib.Core.Path.{_≡_, refl}
-use mathlib.Core.List.{List, [], _∷_, map}
+use mathlib.Core.List.{[], _∷_, map}
 use lib.ListN.{take}
 use Rattle.schedule.specs.Greedy.{saveAndKeep, greedyWriting}
 use Rattle.waiting.specs.Pool.{none, left, writes}

@@ -1,7 +1,7 @@
--- What is left of a pool after a cycle, and what each card writes, as lists: lengths, bounds, and that both depend on the pool's places alone.
+-- What is left of a pool after a cycle, and what each card writes, as lists: lengths and bounds, and where a card writes nothing.
 -- Assumes nothing.
 use Prim.Native.Nat.{ℕ, zero, suc, _+_, _≤_, _<_}
-use mathlib.Core.Path.{_≡_, refl, sym, ap, _∙_}
+use mathlib.Core.Path.{_≡_, refl, sym, _∙_}
 use mathlib.Core.Bool.{Bool, true, false, not, cond}
 use mathlib.Core.List.{List, [], _∷_, _++_, append-nil}
 use native.Mathlib.Omega.{arith}
@@ -13,7 +13,7 @@ use borrow.Author.Tests.{eq-eqb, ne-eqb}
 use Rattle.schedule.specs.Count.{bit, howMany}
 use Rattle.schedule.specs.Schedule.{cardOf}
 use Rattle.schedule.proofs.Bits.{by-cases, bit-le-one}
-use Rattle.schedule.proofs.Sums.{sum-cong, howMany-le}
+use Rattle.schedule.proofs.Sums.{howMany-le}
 use Rattle.waiting.specs.Pool.{none, isOldest, left, writes}
 use Rattle.waiting.proofs.Snoc.{bound-snoc}
 
@@ -61,25 +61,6 @@ pub left-all : (c v : List ℕ) (n b : ℕ) → ((i : ℕ) → i < n → getD v 
 left-all c v zero b h i l = omega arith
 left-all c v (suc n) b h i l =
     bound-kept (left c v n) (isOldest c n) (getD v n 0) b (left-all c v n b (λ j k. h j (omega arith))) (h n (omega arith)) i l
-
--- only the cards and the values at the first n places matter
-oldest-cong : (c c′ : List ℕ) (n : ℕ) → ((i : ℕ) → i < suc n → getD c i 0 ≡ getD c′ i 0) → isOldest c n ≡ isOldest c′ n
-oldest-cong c c′ n h =
-    ap (λ x. eqb x 0)
-    (sum-cong n (λ j. bit (eqb (cardOf c j) (cardOf c n))) (λ j. bit (eqb (cardOf c′ j) (cardOf c′ n)))
-    (λ j l. rw (h j (omega arith), h n (omega arith))))
-
-pub left-cong : (c c′ v v′ : List ℕ) (n : ℕ) → ((i : ℕ) → i < n → getD c i 0 ≡ getD c′ i 0) → ((i : ℕ) → i < n → getD v i 0 ≡ getD v′ i 0)
-    → left c v n ≡ left c′ v′ n
-left-cong c c′ v v′ zero h g = refl
-left-cong c c′ v v′ (suc n) h g =
-    rw (oldest-cong c c′ n h, g n (omega arith), left-cong c c′ v v′ n (λ i l. h i (omega arith)) (λ i l. g i (omega arith)))
-
-pub writes-cong : (k : ℕ) (c c′ v v′ : List ℕ) (n : ℕ) → ((i : ℕ) → i < n → getD c i 0 ≡ getD c′ i 0)
-    → ((i : ℕ) → i < n → getD v i 0 ≡ getD v′ i 0) → writes k c v n ≡ writes k c′ v′ n
-writes-cong k c c′ v v′ zero h g = refl
-writes-cong k c c′ v v′ (suc n) h g =
-    rw (oldest-cong c c′ n h, h n (omega arith), g n (omega arith), writes-cong k c c′ v v′ n (λ i l. h i (omega arith)) (λ i l. g i (omega arith)))
 
 -- a card writes nothing just where it has no frame in the pool
 none-here : (h y w : ℕ) → y < none → eqb w none ≡ eqb h 0 → eqb (cond (eqb h 0) y w) none ≡ eqb (h + 1) 0

@@ -13,7 +13,7 @@ use Rattle.schedule.specs.Greedy.{waits}
 use Rattle.schedule.proofs.Bits.{by-cases}
 use Rattle.schedule.proofs.Sums.{sum-cong}
 use Rattle.waiting.specs.Pool.{isOldest, waitingAmong}
-use Rattle.waiting.proofs.Snoc.{length-snoc, bound-snoc, count-snoc, Tabled, tabled-front, tabled-last}
+use Rattle.waiting.proofs.Snoc.{length-snoc, count-snoc, Tabled, tabled-front, tabled-last}
 
 -- one frame more: it waits and stands at the end, or the list stays
 pub waiting-more : (cycles : List ℕ) (n : ℕ) → waits cycles n ≡ true → waitingAmong cycles (suc n) ≡ waitingAmong cycles n ++ (n ∷ [])
@@ -33,15 +33,6 @@ pub waiting-cong : (cycles cycles′ : List ℕ) (n : ℕ) → ((i : ℕ) → i 
     → waitingAmong cycles n ≡ waitingAmong cycles′ n
 waiting-cong cycles cycles′ zero h = refl
 waiting-cong cycles cycles′ (suc n) h = rw (h n (omega arith), waiting-cong cycles cycles′ n (λ i l. h i (omega arith)))
-
-pub waiting-below : (cycles : List ℕ) (n i : ℕ) → i < length (waitingAmong cycles n) → getD (waitingAmong cycles n) i 0 < n
-waiting-below cycles zero i l = omega arith
-waiting-below cycles (suc n) i l =
-    let ih : (j : ℕ) → j < length (waitingAmong cycles n) → getD (waitingAmong cycles n) j 0 < suc n =
-    λ j k. omega (arith, waiting-below cycles n j k) in
-    by-cases (waits cycles n)
-    (λ e. rw (waiting-more cycles n e) (bound-snoc (waitingAmong cycles n) n (suc n) ih (omega arith) i (rw (waiting-more cycles n e) at l)))
-    (λ e. rw (waiting-same cycles n e) (ih i (rw (waiting-same cycles n e) at l)))
 
 -- counted at the places of the list, a test passes as often as it does of the frames that wait
 pub count-waiting : (cycles : List ℕ) (test : ℕ → Bool) (n : ℕ)

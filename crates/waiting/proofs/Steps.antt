@@ -7,7 +7,7 @@ use mathlib.Core.Bool.{Bool, true, false, not, cond, and-false}
 use mathlib.Core.List.{List, [], _∷_, _++_, map, map-append}
 use native.Mathlib.Omega.{arith}
 use lib.Dec.{eqb}
-use lib.ListN.{length, getD}
+use lib.ListN.{length}
 use borrow.Author.Tests.{ne-eqb}
 use Rattle.schedule.specs.Schedule.{cardOf, cycleOf}
 use Rattle.schedule.specs.Greedy.{Plan, waits, inPool, enter, oneCycle}
@@ -15,14 +15,11 @@ use Rattle.schedule.proofs.Bits.{by-cases}
 use Rattle.waiting.specs.Pool.{left, writes, waitingAmong, poolOf}
 use Rattle.waiting.specs.Log.{frameAmong}
 use Rattle.waiting.proofs.Snoc.{length-snoc, Tabled, tabled-front, tabled-last}
-use Rattle.waiting.proofs.Places.{waiting-more, waiting-same, waiting-length, waiting-cong, waiting-below, place-oldest}
+use Rattle.waiting.proofs.Places.{waiting-more, waiting-same, waiting-length, waiting-cong, place-oldest}
 use Rattle.waiting.proofs.Next.{enter-length, enter-old, enter-new, noneBefore, next-length, next-stays, next-waits, next-written}
 
 pub pool-length : (cycles : List ℕ) → length (poolOf cycles) ≡ inPool cycles
 pool-length cycles = waiting-length cycles (length cycles)
-
-pub pool-below : (cycles : List ℕ) (i : ℕ) → i < length (poolOf cycles) → getD (poolOf cycles) i 0 < length cycles
-pool-below cycles i l = waiting-below cycles (length cycles) i l
 
 pub pool-enter : (p : Plan) → poolOf (enter p .cycles) ≡ poolOf (p .cycles) ++ (length (p .cycles) ∷ [])
 pool-enter p =
