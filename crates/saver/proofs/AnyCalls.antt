@@ -6,8 +6,6 @@ use mathlib.Core.List.{List, [], _∷_, _++_, append-assoc, append-nil}
 use native.Mathlib.Omega.{arith}
 use native.Mathlib.Decide.{ℕ-discrete}
 use lib.ListN.{getD, drop}
-use lib.Seq.{getD-drop, drop-drop}
-use native.Mathlib.Nat.{add-zero}
 use borrow.Author.Tests.{eq-eqb, ne-eqb}
 use Rattle.schedule.specs.Schedule.{cardOf}
 use Rattle.schedule.specs.Greedy.{Plan, oneCycle}
@@ -21,16 +19,11 @@ use Rattle.saver.specs.Calls.{saveOf, closeOf}
 use Rattle.saver.specs.Formed.{Formed}
 use Rattle.saver.specs.Follows.{Shows, Tells}
 use Rattle.saver.specs.Runs.{Call, save, close, after, logged, log, accepted}
+use Rattle.saver.proofs.Tables.{drop-head}
 use Rattle.saver.proofs.Answers.{save-cases, close-cases}
 use Rattle.saver.proofs.Forming.{formed-save, formed-close}
 use Rattle.saver.proofs.Saving.{save-follows, close-follows}
 use Rattle.saver.proofs.Runs.{tells-logged, Kept, save-kept, close-kept}
-
--- a list from place n on: its first element, and the rest
-drop-head : (l : List ℕ) (n x : ℕ) (r : List ℕ) → drop n l ≡ x ∷ r → (getD l n 0 ≡ x) × (drop (n + 1) l ≡ r)
-drop-head l n x r e =
-    let at : getD (drop n l) 0 0 ≡ getD l n 0 = rw add-zero at (getD-drop n l 0 0) in
-    (sym at ∙ ap (λ (k : List ℕ). getD k 0 0) e, sym (drop-drop 1 n l) ∙ ap (λ (k : List ℕ). drop 1 k) e)
 
 -- a save that is not refused uses up a position, and a closing cycle none
 save-taken : (s : Saver) (card : ℕ) → saveOf s card .refusal ≡ 0 → saveOf s card .saver .taken ≡ s .taken + 1

@@ -5,9 +5,9 @@ use mathlib.Core.Path.{_≡_, refl, sym, ap, subst, _∙_}
 use mathlib.Core.Bool.{false, true≢false}
 use mathlib.Core.List.{List, [], _∷_, _++_, append-assoc, append-nil, map}
 use native.Mathlib.Omega.{arith}
+use native.Mathlib.Numerals.{add-one}
 use native.Mathlib.Decide.{decLt}
 use lib.ListN.{length, getD, drop, replicate}
-use lib.Seq.{drop-cons}
 use borrow.Author.Tests.{ne-eqb}
 use Rattle.schedule.specs.Schedule.{cardOf}
 use Rattle.schedule.specs.Greedy.{Plan, inPool, oneCycle, saveFirst, flush}
@@ -21,6 +21,7 @@ use Rattle.saver.specs.Calls.{closingBegun, saveOf, closeOf}
 use Rattle.saver.specs.Formed.{Formed}
 use Rattle.saver.specs.Follows.{Shows, Tells}
 use Rattle.saver.specs.Runs.{save, close, after, logged, log}
+use Rattle.saver.proofs.Tables.{drop-head}
 use Rattle.saver.proofs.Answers.{save-cases, close-empty, close-cycles}
 use Rattle.saver.proofs.Forming.{formed-save, formed-close, formed-cycle, formed-closing}
 use Rattle.saver.proofs.Saving.{save-follows, close-follows}
@@ -141,12 +142,10 @@ module _ (list : List ℕ) where
         record { begun = rw (← z) b; logs = rw (← z) (sym (append-nil (logOf list (plan n)))) }
     saved (x ∷ rest) n s b h e =
         let l : n < length list = omega arith in
-        let here : getD list n 0 ∷ drop (suc n) list ≡ x ∷ rest = sym (drop-cons list n 0 l) ∙ e in
-        let first : getD list n 0 ≡ x = ap (λ (k : List ℕ). getD k 0 0) here in
-        let others : drop (suc n) list ≡ rest = ap (λ (k : List ℕ). drop 1 k) here in
+        let here : (getD list n 0 ≡ x) × (drop (n + 1) list ≡ rest) = drop-head list n x rest e in
         let next : Begun (suc n) (saveOf s x .saver) × (logOf list (plan (suc n)) ≡ logOf list (plan n) ++ logged (saveOf s x)) =
-        rw first at (saved-next n s b l) in
-        let again : Saved (suc n) (saveOf s x .saver) rest = saved rest (suc n) (saveOf s x .saver) (next .0) (omega arith) others in
+        rw (here .0) at (saved-next n s b l) in
+        let again : Saved (suc n) (saveOf s x .saver) rest = saved rest (suc n) (saveOf s x .saver) (next .0) (omega arith) (rw add-one at (here .1)) in
         record {
           begun = again .begun;
           logs = more (plan n) (plan (suc n)) (plan (length list)) (logged (saveOf s x)) (log (saveOf s x .saver) (map save rest)) (next .1) (again .logs);

@@ -7,7 +7,7 @@ use mathlib.Core.Path.{_≡_, sym}
 use mathlib.Core.List.{List, map}
 use lib.ListN.{length, take}
 use Rattle.schedule.specs.Schedule.{cardOf, cyclesIn, CorrectSave}
-use Rattle.schedule.specs.Greedy.{saveAndKeep, greedyWriting}
+use Rattle.schedule.specs.Greedy.{empty, saveAndKeep, greedyWriting}
 use Rattle.schedule.proofs.Main.{save-fewest}
 use Rattle.header.specs.Limits.{maxCards, maxPool, maxFrames, Within}
 use Rattle.waiting.specs.Log.{logOf, times, timesIn}
@@ -15,7 +15,6 @@ use Rattle.saver.specs.declared.Saver.{Saver}
 use Rattle.saver.specs.Calls.{newOf, saveOf, closeOf, Given}
 use Rattle.saver.specs.Follows.{SaveFollows, CloseFollows, Shows}
 use Rattle.saver.specs.Runs.{Call, save, after, log, savedAndClosed}
-use Rattle.schedule.specs.Greedy.{empty}
 use Rattle.saver.proofs.Opening as opening
 use Rattle.saver.proofs.Forming.{given-formed}
 use Rattle.saver.proofs.Saving as saving

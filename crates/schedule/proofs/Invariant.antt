@@ -3,24 +3,19 @@
 -- Assumes nothing.
 use Prim.Native.Nat.{ℕ, suc, _≤_, _<_, min, zero-le}
 use mathlib.Core.Path.{_≡_, ap, _∙_}
-use mathlib.Core.Bool.{Bool, true, false, not, _&&_, _||_, cond, and-true}
+use mathlib.Core.Bool.{true, false, not, _&&_, _||_, and-true}
 use mathlib.Core.List.{List}
 use native.Mathlib.Omega.{arith}
 use native.Mathlib.Decide.{decLe, decLt, ℕ-discrete}
 use lib.Dec.{eqb, leb, eqb·suc-zero}
 use lib.ListN.{length}
-use borrow.Author.Tests.{eq-eqb, eqb-true, eqb-false, leb-true, le-leb, lt-leb}
+use borrow.Author.Tests.{eqb-true, eqb-false, leb-true, le-leb, lt-leb}
 use Rattle.schedule.specs.Count.{bit, sum, howMany}
 use Rattle.schedule.specs.Schedule.{cardOf}
-use Rattle.schedule.proofs.Bits.{by-cases, or-cases, and-left, and-right, bit-mono, bit-le-one, bit-and-off}
-use Rattle.schedule.proofs.Sums.{sum-cong, sum-mono, sum-term-le, passes-after}
+use Rattle.schedule.proofs.Bits.{by-cases, or-cases, and-left, bit-mono, bit-le-one, bit-and-off}
+use Rattle.schedule.proofs.Sums.{sum-cong, sum-mono, passes-after}
 use Rattle.schedule.proofs.Bound.{onCard, admitted, bound, bound-suc}
-use Rattle.schedule.proofs.Pool.{wait, waitOn, first, written, Cycled, written-waiting, written-next, pool-written, pool-next}
-
--- a cycle is known by t + 1 if it was known by t or is t + 1
-cond-le : (b : Bool) (x t : ℕ) → x ≤ t → cond b (suc t) x ≤ suc t
-cond-le true x t h = omega arith
-cond-le false x t h = omega arith
+use Rattle.schedule.proofs.Pool.{wait, waitOn, first, written, Cycled, written-waiting, written-next, made-next, card-rule-next, pool-written, pool-next}
 
 module _ (m : ℕ) (cards : List ℕ) (D : ℕ) (low : (i : ℕ) → i < length cards → cardOf cards i < D) where
   abbrev L : ℕ
@@ -67,7 +62,7 @@ module _ (m : ℕ) (cards : List ℕ) (D : ℕ) (low : (i : ℕ) → i < length 
           omega (arith, written-next cards n y t y′ h c, written-waiting cards n y c, v .meets-bound c)
 
       cycles-made-next : (i : ℕ) → i < n → y′ i ≤ suc t
-      cycles-made-next i l = rw (h i l) (cond-le (first cards y i) (y i) t (v .cycles-made i l))
+      cycles-made-next = made-next cards n y t y′ h (v .cycles-made)
 
       -- what was written up to an earlier cycle stays so
       upTo-point : (u c i : ℕ) → u ≤ t → i < n
@@ -104,29 +99,6 @@ module _ (m : ℕ) (cards : List ℕ) (D : ℕ) (low : (i : ℕ) → i < length 
                 absurd (omega (arith, pool-written cards D low n y (v .inside), written-total n y t v, v .inside)))
             | no q ↦ omega (arith, v .no-cycle-lost e k)
           ]
-
-      -- of two frames of one card, the first that waits hides the other
-      first-hides : (i j : ℕ) → i < j → card i ≡ card j → first cards y i ≡ true → first cards y j ≡ true → ⊥
-      first-hides i j l c a b =
-          let mine : waitOn cards y (card j) i ≡ true = rw (eq-eqb (card i) (card j) c) (first-waits i a) in
-          omega (
-            arith,
-            sum-term-le j (λ k. bit (waitOn cards y (card j) k)) i l,
-            ap bit mine,
-            eqb-true (howMany j (waitOn cards y (card j))) 0 (and-right (wait cards y j) (eqb (howMany j (waitOn cards y (card j))) 0) b),
-          )
-
-      card-rule-next : (i j : ℕ) → i < j → j < n → card i ≡ card j → y′ i ≡ y′ j → y′ i ≡ 0
-      card-rule-next i j l k c e =
-          let hi : y′ i ≡ cond (first cards y i) (suc t) (y i) = h i (omega arith) in
-          let hj : y′ j ≡ cond (first cards y j) (suc t) (y j) = h j k in
-          by-cases (first cards y i)
-          (λ a. by-cases (first cards y j)
-          (λ b. absurd (first-hides i j l c a b))
-          (λ b. let p : y′ i ≡ suc t = rw a at hi in let q : y′ j ≡ y j = rw b at hj in absurd (omega (arith, v .cycles-made j k))))
-          (λ a. by-cases (first cards y j)
-          (λ b. let p : y′ i ≡ y i = rw a at hi in let q : y′ j ≡ suc t = rw b at hj in absurd (omega (arith, v .cycles-made i (omega arith))))
-          (λ b. let p : y′ i ≡ y i = rw a at hi in let q : y′ j ≡ y j = rw b at hj in p ∙ v .card-rule i j l k c (omega arith)))
 
       -- a frame whose cycle is not before that of one just written, or is to come, was in the pool with it
       was-waiting : (i j : ℕ) → y′ i ≡ suc t → j < n → (wait cards y′ j || leb (y′ i) (y′ j)) ≡ true → wait cards y j ≡ true
@@ -169,7 +141,7 @@ module _ (m : ℕ) (cards : List ℕ) (D : ℕ) (low : (i : ℕ) → i < length 
             met-bound = met-bound-next;
             no-cycle-lost = no-cycle-lost-next;
             cycles-made = cycles-made-next;
-            card-rule = card-rule-next;
+            card-rule = card-rule-next cards n y t y′ h (v .cycles-made) (v .card-rule);
             pool-rule = pool-rule-next;
           }
 

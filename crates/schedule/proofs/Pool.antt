@@ -1,24 +1,37 @@
 -- What one cycle of greedyWriting does to the pool, card by card. Frames 0 to n − 1 have entered; `y i` is frame i's cycle, 0 while it waits.
 -- Assumes nothing.
 use Prim.Native.Nat.{ℕ, suc, _+_, _≤_, _<_, min}
-use mathlib.Core.Path.{_≡_, refl, sym, _∙_}
+use mathlib.Core.Path.{_≡_, refl, sym, ap, _∙_}
 use mathlib.Core.Bool.{Bool, true, false, not, _&&_, cond}
 use mathlib.Core.List.{List}
 use native.Mathlib.Omega.{arith}
 use native.Mathlib.Decide.{ℕ-discrete}
 use lib.Dec.{eqb, eqb·suc-zero}
 use lib.ListN.{length}
-use borrow.Author.Tests.{eq-eqb, ne-eqb}
+use borrow.Author.Tests.{eq-eqb, ne-eqb, eqb-true}
 use Rattle.schedule.specs.Count.{bit, sum, howMany}
 use Rattle.schedule.specs.Schedule.{cardOf}
-use Rattle.schedule.proofs.Bits.{bit-split}
-use Rattle.schedule.proofs.Sums.{over-cards, sum-cong, sum-add, sum-one, one-is-first, sum-some}
+use Rattle.schedule.proofs.Bits.{and-left, and-right, bit-split}
+use Rattle.schedule.proofs.Sums.{over-cards, sum-cong, sum-add, sum-one, sum-term-le, one-is-first, sum-some}
 
 -- a frame is written after a cycle: it was before, or it was its card's first
 written-after : (w f : Bool) (x t : ℕ) → eqb x 0 ≡ w → bit (not (eqb (cond (w && f) (suc t) x) 0)) ≡ bit (not w) + bit (w && f)
 written-after true true x t e = rw (eqb·suc-zero t)
 written-after true false x t e = rw e
 written-after false f x t e = rw e
+
+-- a cycle is up to t + 1 if it was up to t or is t + 1
+cond-le : (b : Bool) (x t : ℕ) → x ≤ t → cond b (suc t) x ≤ suc t
+cond-le true x t h = omega arith
+cond-le false x t h = omega arith
+
+-- two frames that are not both written now have the same cycle only while both wait
+cond-rule : (a b : Bool) (x y t : ℕ) → x ≤ t → y ≤ t → (a ≡ true → b ≡ true → ⊥) → (x ≡ y → x ≡ 0) → cond a (suc t) x ≡ cond b (suc t) y
+    → cond a (suc t) x ≡ 0
+cond-rule true true x y t h g n r e = absurd (n refl refl)
+cond-rule true false x y t h g n r e = absurd (omega arith)
+cond-rule false true x y t h g n r e = absurd (omega arith)
+cond-rule false false x y t h g n r e = r e
 
 module _ (cards : List ℕ) where
   abbrev card : ℕ → ℕ
@@ -72,6 +85,29 @@ module _ (cards : List ℕ) where
         sum-add n (λ i. bit (eqb (card i) c && not (wait y i))) (λ i. bit (waitOn y c i && eqb (howMany i (waitOn y c)) 0)),
         one-is-first n (waitOn y c),
       )
+
+  -- of two frames of one card, the first that waits hides the other
+  first-hides : (y : ℕ → ℕ) (i j : ℕ) → i < j → card i ≡ card j → first y i ≡ true → first y j ≡ true → ⊥
+  first-hides y i j l c a b =
+      let mine : waitOn y (card j) i ≡ true = rw (eq-eqb (card i) (card j) c) (and-left (wait y i) (eqb (howMany i (waitOn y (card i))) 0) a) in
+      omega (
+        arith,
+        sum-term-le j (λ k. bit (waitOn y (card j) k)) i l,
+        ap bit mine,
+        eqb-true (howMany j (waitOn y (card j))) 0 (and-right (wait y j) (eqb (howMany j (waitOn y (card j))) 0) b),
+      )
+
+  -- after a cycle, cycles are up to t + 1, and no card has two frames in one
+  module _ (n : ℕ) (y : ℕ → ℕ) (t : ℕ) (y′ : ℕ → ℕ) (h : Cycled n y t y′) (made : (i : ℕ) → i < n → y i ≤ t) where
+    pub made-next : (i : ℕ) → i < n → y′ i ≤ suc t
+    made-next i l = rw (h i l) (cond-le (first y i) (y i) t (made i l))
+
+    pub card-rule-next : ((i j : ℕ) → i < j → j < n → card i ≡ card j → y i ≡ y j → y i ≡ 0)
+        → (i j : ℕ) → i < j → j < n → card i ≡ card j → y′ i ≡ y′ j → y′ i ≡ 0
+    card-rule-next rule i j l k c e =
+        let b : i < n = omega arith in
+        rw (h i b)
+        (cond-rule (first y i) (first y j) (y i) (y j) t (made i b) (made j k) (first-hides y i j l c) (rule i j l k c) (rw (h i b, h j k) at e))
 
   module _ (D : ℕ) (low : (i : ℕ) → i < length cards → card i < D) where
     -- every frame waits or is written

@@ -128,7 +128,7 @@ below-at-most n h =
     )
 
 -- counted card by card, for D cards, and all together
-on-one-card : (D x : ℕ) (b : Bool) → x < D → sum D (λ c. bit (eqb x c && b)) ≡ bit b
+pub on-one-card : (D x : ℕ) (b : Bool) → x < D → sum D (λ c. bit (eqb x c && b)) ≡ bit b
 on-one-card D x true h = sum-cong D (λ c. bit (eqb x c && true)) (λ c. bit (eqb x c)) (λ c l. ap bit (and-true (eqb x c))) ∙ equal-one D x h
 on-one-card D x false h = sum-cong D (λ c. bit (eqb x c && false)) (λ c. 0) (λ c l. ap bit (and-false (eqb x c))) ∙ sum-zero D
 

@@ -5,7 +5,7 @@ use mathlib.Core.Path.{_≡_, refl, sym, ap, _∙_}
 use mathlib.Core.Bool.{Bool, true, false, _&&_}
 use mathlib.Core.List.{List}
 use native.Mathlib.Omega.{arith}
-use native.Mathlib.Decide.{decLt, ℕ-discrete}
+use native.Mathlib.Decide.{decLt}
 use lib.Dec.{eqb}
 use lib.ListN.{length}
 use borrow.Author.Tests.{eq-eqb, ne-eqb, eqb-true}
@@ -13,11 +13,11 @@ use Rattle.schedule.specs.Count.{bit, howMany}
 use Rattle.schedule.specs.Schedule.{cardOf, cycleOf}
 use Rattle.schedule.specs.Greedy.{Plan}
 use Rattle.schedule.proofs.Bits.{by-cases, by-test, and-left, and-right}
-use Rattle.schedule.proofs.Sums.{sum-cong}
+use Rattle.schedule.proofs.Sums.{sum-cong, on-one-card}
 use Rattle.header.specs.Limits.{maxCards}
 use Rattle.waiting.specs.Pool.{none, poolOf}
 use Rattle.waiting.specs.Log.{frameAmong, entriesOf, cyclesUpTo, logOf, times, timesIn, Told}
-use Rattle.waiting.proofs.Times.{times-tabulate, timesIn-snoc, one-at, times-pool, zero-or-one-of}
+use Rattle.waiting.proofs.Times.{times-tabulate, timesIn-snoc, times-pool, zero-or-one-of}
 
 -- the entry of card k is no frame from n on
 frame-not : (cards cycles : List ℕ) (c k n i : ℕ) → n ≤ i → i < none → eqb (frameAmong cards cycles c k n) i ≡ false
@@ -26,9 +26,6 @@ frame-not cards cycles c k (suc n) i h g =
     by-test (λ r. eqb r i ≡ false) (eqb (cardOf cards n) k && eqb (cycleOf cycles n) c) n (frameAmong cards cycles c k n)
     (λ e. ne-eqb n i (λ q. omega arith))
     (λ e. frame-not cards cycles c k n i (omega arith) g)
-
-eqb-sym : (a b : ℕ) → eqb a b ≡ eqb b a
-eqb-sym a b = elim (ℕ-discrete a b) [ yes e ↦ rw e | no e ↦ ne-eqb a b e ∙ sym (ne-eqb b a (λ q. omega arith)) ]
 
 module _ (cards : List ℕ) (p : Plan) (v : Told cards p) (i : ℕ) (l : i < length (p .cycles)) where
   abbrev y : ℕ → ℕ
@@ -76,9 +73,9 @@ module _ (cards : List ℕ) (p : Plan) (v : Told cards p) (i : ℕ) (l : i < len
     times-entries c h =
         times-tabulate i maxCards (λ k. frameAmong cards (p .cycles) c k (length (p .cycles)))
         ∙ sum-cong maxCards (λ k. bit (eqb (frameAmong cards (p .cycles) c k (length (p .cycles))) i))
-        (λ k. bit (eqb k (cardOf cards i) && eqb (y i) c))
-        (λ k b. rw (frame-is low c k (length (p .cycles)) h l (omega arith), eqb-sym (cardOf cards i) k))
-        ∙ one-at maxCards (cardOf cards i) (λ k. eqb (y i) c) card
+        (λ k. bit (has c k i))
+        (λ k b. ap bit (frame-is low c k (length (p .cycles)) h l (omega arith)))
+        ∙ on-one-card maxCards (cardOf cards i) (eqb (y i) c) card
 
     times-log : (t : ℕ) → timesIn i (cyclesUpTo cards (p .cycles) t) ≡ howMany t (λ c. eqb (y i) (suc c))
     times-log zero = refl

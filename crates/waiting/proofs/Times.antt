@@ -33,7 +33,7 @@ none-at : (n x : ℕ) (t : ℕ → Bool) → n ≤ x → howMany n (λ j. eqb j 
 none-at zero x t h = refl
 none-at (suc n) x t h = rw (ne-eqb n x (λ e. omega arith)) (omega (arith, none-at n x t (omega arith)))
 
-pub one-at : (n x : ℕ) (t : ℕ → Bool) → x < n → howMany n (λ j. eqb j x && t j) ≡ bit (t x)
+one-at : (n x : ℕ) (t : ℕ → Bool) → x < n → howMany n (λ j. eqb j x && t j) ≡ bit (t x)
 one-at zero x t h = omega arith
 one-at (suc n) x t h =
     elim (decLt x n) [
