@@ -36,11 +36,11 @@ letter : (b : ℕ) → 65 ≤ b → b ≤ 70 → digit b ≡ b - 55
 unfolding digit
 letter b l h = rw (le-leb 48 b (omega arith), lt-leb b 57 (omega arith), le-leb 65 b l, le-leb b 70 h)
 
-small-digit : (v : ℕ) → v < 10 → digitOf v ≡ 48 + v
+pub small-digit : (v : ℕ) → v < 10 → digitOf v ≡ 48 + v
 unfolding digitOf
 small-digit v h = rw (lt-ltb v 10 h)
 
-large-digit : (v : ℕ) → 10 ≤ v → digitOf v ≡ 55 + v
+pub large-digit : (v : ℕ) → 10 ≤ v → digitOf v ≡ 55 + v
 unfolding digitOf
 large-digit v h = rw (le-ltb v 10 h)
 

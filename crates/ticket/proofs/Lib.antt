@@ -1,4 +1,5 @@
 pub mod Main
+pub mod Front
 pub mod Written
 pub mod Answers
 pub mod Accepted

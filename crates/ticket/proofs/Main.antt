@@ -5,11 +5,11 @@ use Prim.Native.Nat.{ℕ, _+_, _*_, _<_}
 use mathlib.Core.Path.{_≡_, refl, sym, _∙_}
 use mathlib.Core.List.{List}
 use mathlib.Core.Logic.{_⊎_, inl, inr}
-use lib.ListN.{length}
+use lib.ListN.{length, take}
 use Rattle.schedule.specs.Schedule.{cardOf}
 use Rattle.text.specs.Hex.{hex}
 use Rattle.header.specs.Heading.{headerBytes}
-use Rattle.header.specs.Limits.{Within}
+use Rattle.header.specs.Limits.{Within, maxFrames}
 use Rattle.ticket.specs.Grounds.{Says, Fits}
 use Rattle.ticket.specs.Print.{ticketText}
 use Rattle.ticket.specs.Ticket.{Parsed, accepted, refused, lineBytes, lineDigits, parse, lineOf}
@@ -17,6 +17,7 @@ use Rattle.header.specs.declared.Header.{Header}
 use Rattle.ticket.proofs.Reader as reader
 use Rattle.ticket.proofs.Accepted as accepting
 use Rattle.ticket.proofs.Written as writing
+use Rattle.ticket.proofs.Front as front
 
 -- Every text is answered as the table of refusals says, on exactly the stated conditions and in the stated order.
 pub parse-says : (t : List ℕ) → Says t (parse t)
@@ -35,6 +36,10 @@ accepted-or-refused t =
       | accepted h cards ↦ λ e. inl (h, cards, refl)
       | refused k ↦ λ e. inr (k, reader.refusal-number t k e, refl)
     ]) refl
+
+-- A text is settled by its first 12,304 bytes, one more than the longest ticket has: what follows changes no answer.
+pub front-settles : (n : ℕ) (t : List ℕ) → headerBytes + lineBytes * maxFrames < n → parse (take n t) ≡ parse t
+front-settles = front.settled
 
 module _ (t : List ℕ) (h : Header) (cards : List ℕ) (e : parse t ≡ accepted h cards) where
   -- The values of an accepted ticket are within the limits.
