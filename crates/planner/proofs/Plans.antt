@@ -1,17 +1,21 @@
 -- From one pass to the plan of each mode.
 -- Assumes nothing.
-use Prim.Native.Nat.{ℕ, suc, _+_, _-_, _≤_, _<_}
-use mathlib.Core.Path.{_≡_, _∙_}
-use mathlib.Core.Bool.{true, false}
-use mathlib.Core.List.{List, map, reverse}
+use Prim.Native.Nat.{ℕ, zero, suc, _+_, _-_, _≤_, _<_}
+use mathlib.Core.Path.{_≡_, refl, _∙_}
+use mathlib.Core.Bool.{true, false, cond}
+use mathlib.Core.List.{List, [], _∷_, map, reverse}
 use native.Mathlib.Omega.{arith}
+use native.Mathlib.Decide.{ℕ-discrete}
+use lib.Dec.{ltb}
 use lib.ListN.{length, getD, drop, length-append, length-map, length-reverse, List·getD-append}
 use borrow.Author.Tests.{eq-eqb, ne-eqb}
 use lib.Seq.{take-at, drop-at}
 use Rattle.schedule.specs.Count.{written}
-use Rattle.schedule.specs.Greedy.{saveAndKeep, greedyWriting, lazyPrefetching}
-use Rattle.schedule.proofs.Lists.{le-largest, reverse-getD, map-reverse}
-use Rattle.schedule.proofs.Main.{save-correct, save-length}
+use Rattle.schedule.specs.Schedule.{cycleOf}
+use Rattle.schedule.specs.Greedy.{Plan, inPool, enter, isFirst, oneCycle, saveFirst, saveAndKeep, greedyWriting, lazyPrefetching}
+use Rattle.schedule.proofs.Lists.{length-tabulate, le-largest, reverse-getD, map-reverse}
+use Rattle.schedule.proofs.Bits.{by-test}
+use Rattle.schedule.proofs.Main.{save-correct, read-correct, save-length}
 use Rattle.header.specs.Limits.{read, save}
 use Rattle.onepass.specs.AsOf.{asOf}
 use Rattle.planner.specs.Plan.{planFor}
@@ -32,6 +36,30 @@ module _ (mode m : ℕ) (cards : List ℕ) where
 
   pub plan-keep : (mode ≡ read → ⊥) → (mode ≡ save → ⊥) → planFor mode m cards ≡ saveAndKeep m cards
   plan-keep e g = rw (ne-eqb mode read e, ne-eqb mode save g)
+
+  length-cycle : (p : Plan) → length (oneCycle cards p .cycles) ≡ length (p .cycles)
+  length-cycle p = length-tabulate (length (p .cycles)) (λ i. cond (isFirst cards (p .cycles) i) (suc (p .T)) (cycleOf (p .cycles) i))
+
+  saved-length : (n : ℕ) → length (saveFirst cards m n .cycles) ≡ n
+  saved-length zero = refl
+  saved-length (suc n) =
+      let p = saveFirst cards m n in
+      by-test (λ r. length (enter r .cycles) ≡ suc n) (ltb (inPool (p .cycles)) m) p (oneCycle cards p)
+      (λ e. omega (arith, length-append (p .cycles) (0 ∷ []), saved-length n))
+      (λ e. omega (arith, length-append (oneCycle cards p .cycles) (0 ∷ []), length-cycle p, saved-length n))
+
+  -- a plan has a cycle for each frame, in every mode
+  pub plan-length : 1 ≤ m → length (planFor mode m cards .cycles) ≡ length cards
+  unfolding saveAndKeep
+  plan-length pool =
+      elim (ℕ-discrete mode read) [
+        | yes e ↦ rw (plan-read e) (read-correct m cards pool .one-each)
+        | no n ↦
+            elim (ℕ-discrete mode save) [
+              | yes e ↦ rw (plan-save e) (save-correct m cards pool .one-each)
+              | no k ↦ rw (plan-keep n k) (saved-length (length cards))
+            ]
+      ]
 
 module _ {m : ℕ} {cards before after : List ℕ} {made all : ℕ} (f : Asked m cards before) where
   pub saved : Passed m false cards before after made all → Filled (greedyWriting m cards) before after all
