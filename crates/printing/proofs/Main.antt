@@ -1,0 +1,31 @@
+-- The public theorems about the printed plan. The contract of `print` (src/lib.rt) says of every ticket and every buffer what a call leaves.
+-- Assumes nothing.
+use Prim.Native.Nat.{ℕ, _≤_}
+use mathlib.Core.Path.{_≡_, ap}
+use mathlib.Core.List.{List, map}
+use native.Mathlib.Omega.{arith}
+use lib.ListN.{length, take}
+use Rattle.schedule.specs.Count.{written}
+use Rattle.ticket.proofs.Main as ticket
+use Rattle.printing.specs.Printed.{textOf, printed, bytesIn, bufferAfter}
+use Rattle.printing.specs.Cases.{Case, cases}
+use Rattle.printing.proofs.Cases as table
+use Rattle.printing.proofs.Short as short
+
+-- "looks at its first 65,536 bytes, which settle every ticket"
+pub front-settles : (t : List ℕ) → printed (take 65536 t) ≡ printed t
+front-settles t = ap textOf (ticket.front-settles 65536 t (omega arith))
+
+-- No text is longer than the buffer that the program lends.
+pub room-for-every-text : (t : List ℕ) → length (printed t) ≤ 45061
+room-for-every-text = short.room-for-every-text
+
+-- With that room the whole text is printed (`print_whole` says so of each call).
+pub whole-text :
+    (t before : List ℕ) → 45061 ≤ length before
+    → (bytesIn (printed t) (length before) ≡ length (printed t)) × (bufferAfter (printed t) before ≡ written (printed t) before)
+whole-text = short.whole-text
+
+-- The example of document 01 and two refusals, byte by byte.
+pub texts-hold : map (λ (c : Case). c .text) cases ≡ map (λ (c : Case). c .expected) cases
+texts-hold = table.texts-hold

@@ -1,0 +1,30 @@
+-- Every printed text has room in a buffer of 45,061 bytes.
+-- Assumes nothing.
+use Prim.Native.Nat.{ℕ, _≤_}
+use mathlib.Core.Path.{_≡_, refl}
+use mathlib.Core.List.{List}
+use native.Mathlib.Omega.{arith}
+use lib.ListN.{length}
+use borrow.Author.Tests.{le-leb}
+use Rattle.schedule.specs.Count.{written}
+use Rattle.ticket.specs.Ticket.{Parsed, accepted, refused, parse}
+use Rattle.ticket.proofs.Main as ticket
+use Rattle.planner.specs.Plan.{planFor}
+use Rattle.printing.specs.Printed.{textOf, printed, bytesIn, bufferAfter}
+use Rattle.printing.proofs.Listed.{plan-long, refusal-length}
+
+text-short : (t : List ℕ) (p : Parsed) → parse t ≡ p → length (textOf p) ≤ 45061
+unfolding textOf
+text-short t (accepted h cards) e =
+    let f = ticket.accepted-fits t h cards e in
+    omega (arith, plan-long cards (planFor (h .mode) (h .pool) cards), f .frames, f .few)
+text-short t (refused k) e = omega (arith, refusal-length k)
+
+pub room-for-every-text : (t : List ℕ) → length (printed t) ≤ 45061
+room-for-every-text t = text-short t (parse t) refl
+
+pub whole-text :
+    (t before : List ℕ) → 45061 ≤ length before
+    → (bytesIn (printed t) (length before) ≡ length (printed t)) × (bufferAfter (printed t) before ≡ written (printed t) before)
+unfolding bytesIn bufferAfter
+whole-text t before h = rw (le-leb (length (printed t)) (length before) (omega (arith, h, room-for-every-text t))) (refl, refl)

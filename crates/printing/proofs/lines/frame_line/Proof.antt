@@ -1,0 +1,58 @@
+-- `printing::lines::frame_line` meets its contract.
+-- Assumes nothing.
+use Rattle.printing.proofs.Puts.{put-line, line-length}
+use lib.ListN.{length-set}
+use Rattle.printing.proofs.Puts.{put-line}
+use native.Mathlib.Omega.{arith}
+use borrow.Author.Needs.{needs}
+use Rattle.printing.proofs.lines.frame_line.Statement.{statement}
+use Rattle.printing.proofs.lines.frame_line.Tie as tie
+
+put4-requires : tie.Need-put4-requires
+put4-requires c κs = search needs
+
+add-out : tie.Need-add-out
+add-out c = search needs
+
+slice-write-out : tie.Need-slice-write-out
+slice-write-out c = search needs
+
+add-out-2 : tie.Need-add-out-2
+add-out-2 c = search needs
+
+slice-write-out-2 : tie.Need-slice-write-out-2
+slice-write-out-2 c = simp length-set (omega arith)
+
+add-put4 : tie.Need-add-put4
+add-put4 c = search needs
+
+put4-requires-2 : tie.Need-put4-requires-2
+put4-requires-2 c κs = simp length-set (omega arith)
+
+add-out-3 : tie.Need-add-out-3
+add-out-3 c = search needs
+
+slice-write-out-3 : tie.Need-slice-write-out-3
+slice-write-out-3 c = omega (arith, c .before .before .before .before .before .before .before .before .before .pre, line-length _ _ _ _ _ _ _ _ (c .before .before .before .before .before .before .put4 .ensures) (c .before .before .put42 .ensures))
+
+same-length : tie.Need-same-length
+same-length c = simp length-set (line-length _ _ _ _ _ _ _ _ (c .before .before .before .before .before .before .put4 .ensures) (c .before .before .put42 .ensures))
+
+returns : tie.Need-returns
+returns c = put-line _ _ _ _ _ _ _ _ (c .before .before .before .before .before .before .put4 .ensures) (c .before .before .put42 .ensures)
+
+pub frame-line-spec : {M : Type 1} → statement M
+frame-line-spec =
+    tie.close
+    (tie.spec
+    put4-requires
+    add-out
+    slice-write-out
+    add-out-2
+    slice-write-out-2
+    add-put4
+    put4-requires-2
+    add-out-3
+    slice-write-out-3
+    same-length
+    returns)

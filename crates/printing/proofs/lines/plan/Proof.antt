@@ -1,0 +1,129 @@
+-- `printing::lines::plan` meets its contract.
+-- Assumes nothing.
+use Rattle.printing.proofs.Listed.{linesFrom, head-length, long, frames-is, frames-few, no-lines, next-line, put-all, text-long}
+use native.Mathlib.Omega.{arith}
+use Prim.Native.Nat.{_≤_, _-_}
+use mathlib.Core.Path.{_≡_}
+use lib.Seq.{sets}
+use Rattle.printing.proofs.Listed.{linesFrom, long, frames-is, frames-few, no-lines, next-line, put-all, text-long}
+use Rattle.printing.proofs.Outcome.{no-room}
+use borrow.Author.Needs.{needs}
+use Rattle.printing.proofs.lines.plan.Statement.{statement}
+use Rattle.printing.proofs.lines.plan.Tie as tie
+
+abbrev Inv-loop : tie.InvT-loop
+Inv-loop ticket cycles plan out₀ n i₀ out i = (i ≤ n) × (out ≡ sets out₀ 5 (linesFrom ticket plan i))
+
+abbrev μ-loop : tie.MeasureT-loop
+μ-loop ticket cycles plan out₀ n i₀ out i = n - i
+
+sub-n : tie.Need-sub-n Inv-loop μ-loop
+sub-n c = omega (arith, long _ _ _ (c .before .before .before .pre))
+
+mul-if1 : tie.Need-mul-if1 Inv-loop μ-loop
+mul-if1 c = omega (arith, long _ _ _ (c .before .before .before .pre), frames-few _ _ _ (c .before .before .before .pre))
+
+add-if1 : tie.Need-add-if1 Inv-loop μ-loop
+add-if1 c = omega (arith, long _ _ _ (c .before .before .before .pre), frames-few _ _ _ (c .before .before .before .pre))
+
+returns : tie.Need-returns Inv-loop μ-loop
+returns c = no-room _ _ (omega (arith, long _ _ _ (c .before .before .before .before .pre), text-long _ _ _ (c .before .before .before .before .pre)))
+
+put4-requires : tie.Need-put4-requires Inv-loop μ-loop
+put4-requires c κs = search needs
+
+slice-write-out : tie.Need-slice-write-out Inv-loop μ-loop
+slice-write-out c = search needs
+
+loop-holds : tie.Need-loop-holds Inv-loop μ-loop
+loop-holds c = (omega arith, no-lines _ _ _)
+
+mul-frame-line : tie.Need-mul-frame-line Inv-loop μ-loop
+mul-frame-line c = search needs
+
+add-frame-line : tie.Need-add-frame-line Inv-loop μ-loop
+add-frame-line c = search needs
+
+cast-frame-line : tie.Need-cast-frame-line Inv-loop μ-loop
+cast-frame-line c = omega (arith, long _ _ _ (c .before .before .before .before .before .before .before .before .before .before .before .pre), frames-few _ _ _ (c .before .before .before .before .before .before .before .before .before .before .before .pre))
+
+mul-frame-line-2 : tie.Need-mul-frame-line-2 Inv-loop μ-loop
+mul-frame-line-2 c = search needs
+
+add-frame-line-2 : tie.Need-add-frame-line-2 Inv-loop μ-loop
+add-frame-line-2 c = search needs
+
+shared-slice-read-frame-line : tie.Need-shared-slice-read-frame-line Inv-loop μ-loop
+shared-slice-read-frame-line c = search needs
+
+mul-frame-line-3 : tie.Need-mul-frame-line-3 Inv-loop μ-loop
+mul-frame-line-3 c = search needs
+
+add-frame-line-3 : tie.Need-add-frame-line-3 Inv-loop μ-loop
+add-frame-line-3 c = search needs
+
+shared-slice-read-frame-line-2 : tie.Need-shared-slice-read-frame-line-2 Inv-loop μ-loop
+shared-slice-read-frame-line-2 c = search needs
+
+mul-frame-line-4 : tie.Need-mul-frame-line-4 Inv-loop μ-loop
+mul-frame-line-4 c = search needs
+
+shared-slice-read-frame-line-3 : tie.Need-shared-slice-read-frame-line-3 Inv-loop μ-loop
+shared-slice-read-frame-line-3 c = omega (arith, long _ _ _ (c .before .before .before .before .before .before .before .before .before .before .before .before .before .before .pre), c .before .before .before .before .before .before .before .before .before .before .before .before .before .before .pre .room)
+
+frame-line-requires : tie.Need-frame-line-requires Inv-loop μ-loop
+frame-line-requires c κs = omega (arith, head-length _ _ _ _ (linesFrom (c .before .before .before .before .before .before .before .before .before .before .before .before .before .before .args .ticket .now) (c .before .before .before .before .before .before .before .before .before .before .before .before .before .before .args .plan .now) (c .before .before .before .before .before .loop .i)) (c .before .before .before .before .before .before .before .before .put4 .ensures) (c .before .before .before .before .before .loop .inv .1))
+
+add-i : tie.Need-add-i Inv-loop μ-loop
+add-i c = search needs
+
+loop-less : tie.Need-loop-less Inv-loop μ-loop
+loop-less c = search needs
+
+loop-again : tie.Need-loop-again Inv-loop μ-loop
+loop-again c = (omega arith, next-line _ _ _ _ _ _ (c .before .before .before .before .before .before .before .before .loop .inv .1) (c .before .before .frame-line .ensures))
+
+mul-result : tie.Need-mul-result Inv-loop μ-loop
+mul-result c = search needs
+
+add-result : tie.Need-add-result Inv-loop μ-loop
+add-result c = search needs
+
+same-length : tie.Need-same-length Inv-loop μ-loop
+same-length c = head-length _ _ _ _ (linesFrom (c .before .before .before .before .before .before .before .before .before .before .args .ticket .now) (c .before .before .before .before .before .before .before .before .before .before .args .plan .now) (c .before .loop .i)) (c .before .before .before .before .put4 .ensures) (c .before .loop .inv .1)
+
+returns-2 : tie.Need-returns-2 Inv-loop μ-loop
+returns-2 c = put-all _ _ _ (c .before .before .before .before .before .before .before .before .before .before .pre) _ _ _ _ _ (frames-is _ _ _ (c .before .before .before .before .before .before .before .before .before .before .pre)) (omega arith) (omega arith) (c .before .before .before .before .put4 .ensures) (c .before .loop .inv .1)
+
+pub plan-spec : {M : Type 1} → statement M
+plan-spec =
+    tie.close
+    (tie.spec
+    Inv-loop
+    μ-loop
+    sub-n
+    mul-if1
+    add-if1
+    returns
+    put4-requires
+    slice-write-out
+    loop-holds
+    mul-frame-line
+    add-frame-line
+    cast-frame-line
+    mul-frame-line-2
+    add-frame-line-2
+    shared-slice-read-frame-line
+    mul-frame-line-3
+    add-frame-line-3
+    shared-slice-read-frame-line-2
+    mul-frame-line-4
+    shared-slice-read-frame-line-3
+    frame-line-requires
+    add-i
+    loop-less
+    loop-again
+    mul-result
+    add-result
+    same-length
+    returns-2)

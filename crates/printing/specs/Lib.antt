@@ -1,0 +1,3 @@
+pub mod Printed
+pub mod Put
+pub mod Cases

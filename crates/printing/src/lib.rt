@@ -1,0 +1,35 @@
+// The printed plan of a ticket, as text in a lent buffer.
+ghost use mathlib.Core.Path.{_≡_};
+ghost use lib.ListN.{length};
+ghost use Rattle.schedule.specs.Count.{written};
+ghost use Rattle.printing.specs.Printed.{printed, bytesIn, bufferAfter, Front};
+
+mod digits;
+mod lines;
+
+// The bytes of the longest text: the line of T, and a line for each of 4,096 frames.
+pub const LONGEST: usize = 45061;
+
+// Prints the plan of a ticket, or its refusal, over the front of `out`, and answers how many bytes the text has; later places keep their
+// content. Where `out` has no room for the whole text, nothing is printed and the answer is 0.
+pub fn print(ticket: &[u8], out: &mut [u8]) -> usize
+    ensures answer { λ r. ⌜ r ≡ bytesIn (printed (now (ticket .entry))) (length (now (out .entry))) ⌝ }
+    ensures buffer { λ r. ⌜ now (out .exit) ≡ bufferAfter (printed (now (ticket .entry))) (now (out .entry)) ⌝ }
+    ensures front { λ r. ⌜ Front r (now (out .exit)) ⌝ }
+{
+    let mut plan = [0u16; 4096];
+    let answer = planner::plan(ticket, &mut plan);
+    match answer {
+        planner::Answer::Refused(number) => lines::refusal(number, out),
+        planner::Answer::Planned(cycles) => lines::plan(ticket, cycles.0, &plan, out),
+    }
+}
+
+// The same in a buffer with room for every text: the whole text is printed, whichever the ticket.
+pub fn print_whole(ticket: &[u8], out: &mut [u8; LONGEST]) -> usize
+    ensures answer { λ r. ⌜ r ≡ length (printed (now (ticket .entry))) ⌝ }
+    ensures buffer { λ r. ⌜ now (out .exit) ≡ written (printed (now (ticket .entry))) (now (out .entry)) ⌝ }
+    ensures front { λ r. ⌜ Front r (now (out .exit)) ⌝ }
+{
+    print(ticket, out)
+}

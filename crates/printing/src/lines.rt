@@ -1,0 +1,61 @@
+// The lines of a printed plan, and the line of a refusal.
+ghost use mathlib.Core.Path.{_≡_};
+ghost use mathlib.Core.List.{[], _∷_, _++_};
+ghost use Prim.Native.Nat.{_+_, _≤_};
+ghost use lib.ListN.{length};
+ghost use lib.Seq.{sets};
+ghost use Rattle.text.specs.Hex.{hex, endOfLine};
+ghost use Rattle.printing.specs.Printed.{printed, refusalText};
+ghost use Rattle.printing.specs.Put.{Made, Put};
+use crate::digits;
+
+// FF and the number.
+pub(crate) fn refusal(number: u8, out: &mut [u8]) -> usize
+    ensures { λ r. ⌜ Put (refusalText number) (now (out .entry)) (now (out .exit)) r ⌝ }
+{
+    if out.len() < 5 {
+        return 0;
+    }
+    digits::put2(out, 0, 255);
+    digits::put2(out, 2, number);
+    out[4] = text::END;
+    5
+}
+
+// A frame's line, at a place. The card's two digits are given as they stand in the ticket.
+fn frame_line(out: &mut [u8], at: usize, position: u16, high: u8, low: u8, cycle: u16)
+    requires { ⌜ at + 11 ≤ length (now out) ⌝ }
+    ensures { λ r. ⌜ now (out .exit) ≡ sets (now (out .entry)) at (hex 4 position ++ ((high ∷ low ∷ []) ++ (hex 4 cycle ++ endOfLine))) ⌝ }
+{
+    digits::put4(out, at, position);
+    out[at + 4] = high;
+    out[at + 5] = low;
+    digits::put4(out, at + 6, cycle);
+    out[at + 10] = text::END;
+}
+
+// T, and a line for each frame.
+pub(crate) fn plan(ticket: &[u8], cycles: u16, plan: &[u16], out: &mut [u8]) -> usize
+    requires { ⌜ Made (now ticket) cycles (now plan) ⌝ }
+    ensures { λ r. ⌜ Put (printed (now (ticket .entry))) (now (out .entry)) (now (out .exit)) r ⌝ }
+{
+    let n = (ticket.len() - 15) / 3;
+    if out.len() < 5 + 11 * n {
+        return 0;
+    }
+    digits::put4(out, 0, cycles);
+    out[4] = text::END;
+    let mut i: usize = 0;
+    while i < n {
+        frame_line(
+            out,
+            5 + 11 * i,
+            i as u16,
+            ticket[15 + 3 * i],
+            ticket[16 + 3 * i],
+            plan[i],
+        );
+        i += 1;
+    }
+    5 + 11 * n
+}
