@@ -11,6 +11,7 @@ use borrow.Author.Tests.{lt-ltb}
 use Rattle.schedule.specs.Schedule.{cardOf, cycleOf}
 use Rattle.schedule.specs.Greedy.{Plan}
 use Rattle.text.specs.Hex.{hex, endOfLine}
+use Rattle.text.proofs.Hex.{length-hex}
 use Rattle.text.specs.Text.{endByte}
 use Rattle.header.specs.Limits.{maxFrames}
 use Rattle.header.specs.declared.Header.{Header}
@@ -19,7 +20,7 @@ use Rattle.ticket.proofs.Main.{accepted-length, accepted-fits, line-card}
 use Rattle.planner.specs.Plan.{planFor}
 use Rattle.printing.specs.Printed.{frameLine, frameLines, planText, textOf, printed, refusalText}
 use Rattle.printing.specs.Put.{Made, Put}
-use Rattle.printing.proofs.Puts.{sets-append, length-hex, put-length}
+use Rattle.printing.proofs.Puts.{sets-append, put-length}
 use Rattle.printing.proofs.Outcome.{room}
 
 -- FF, the number and the end of the line

@@ -1,12 +1,13 @@
 -- Digits put into a list place by place: the stores one after another are one run of stores (`sets`).
 -- Assumes nothing.
-use Prim.Native.Nat.{ℕ, zero, suc, _+_, _/_, _%_, _<_}
-use mathlib.Core.Path.{_≡_, refl, ap, _∙_}
+use Prim.Native.Nat.{ℕ, suc, _+_, _/_, _%_, _<_}
+use mathlib.Core.Path.{_≡_, ap, _∙_}
 use mathlib.Core.List.{List, [], _∷_, _++_, append-assoc}
 use native.Mathlib.Omega.{arith}
 use native.Mathlib.Numerals.{add-one}
 use lib.ListN.{length, set, length-set, length-append}
 use lib.Seq.{sets, length-sets}
+use Rattle.text.proofs.Hex.{length-hex}
 use Rattle.text.specs.Hex.{digitOf, hex, endOfLine}
 use Rattle.text.specs.Text.{endByte}
 
@@ -16,11 +17,6 @@ sets-append l i [] b k e =
     let f : k ≡ i = omega (arith, e) in
     rw f
 sets-append l i (x ∷ a) b k e = sets-append (set l i x) (suc i) a b k (omega (arith, e))
-
-pub length-hex : (n x : ℕ) → length (hex n x) ≡ n
-unfolding hex
-length-hex zero x = refl
-length-hex (suc n) x = omega (arith, length-append (hex n (x / 16)) (digitOf (x % 16) ∷ []), length-hex n (x / 16))
 
 pub hex-2 : (v : ℕ) → v < 256 → hex 2 v ≡ digitOf (v / 16) ∷ digitOf (v % 16) ∷ []
 unfolding hex

@@ -7,7 +7,7 @@ use mathlib.Core.List.{List, [], _∷_, _++_}
 use native.Mathlib.Omega.{arith}
 use native.Mathlib.Decide.{decLe}
 use native.Mathlib.Numerals.{add-one}
-use lib.ListN.{length, getD, take, drop, length-drop}
+use lib.ListN.{length, getD, take, drop, length-drop, length-append}
 use lib.Seq.{take-suc, getD-drop}
 use borrow.Author.Tests.{lt-ltb, le-ltb, le-leb, lt-leb}
 use Rattle.text.specs.Hex.{digitOf, hex, endOfLine}
@@ -28,11 +28,11 @@ above : (b : ℕ) → 70 < b → digit b ≡ 16
 unfolding digit
 above b h = rw (le-leb 48 b (omega arith), lt-leb b 57 (omega arith), le-leb 65 b (omega arith), lt-leb b 70 h)
 
-decimal : (b : ℕ) → 48 ≤ b → b ≤ 57 → digit b ≡ b - 48
+pub decimal : (b : ℕ) → 48 ≤ b → b ≤ 57 → digit b ≡ b - 48
 unfolding digit
 decimal b l h = rw (le-leb 48 b l, le-leb b 57 h)
 
-letter : (b : ℕ) → 65 ≤ b → b ≤ 70 → digit b ≡ b - 55
+pub letter : (b : ℕ) → 65 ≤ b → b ≤ 70 → digit b ≡ b - 55
 unfolding digit
 letter b l h = rw (le-leb 48 b (omega arith), lt-leb b 57 (omega arith), le-leb 65 b l, le-leb b 70 h)
 
@@ -62,6 +62,11 @@ digit-back b h =
                 ]
           ]
     ]
+
+pub length-hex : (n x : ℕ) → length (hex n x) ≡ n
+unfolding hex
+length-hex zero x = refl
+length-hex (suc n) x = omega (arith, length-append (hex n (x / 16)) (digitOf (x % 16) ∷ []), length-hex n (x / 16))
 
 shift : (a d : ℕ) → d < 16 → ((a * 16 + d) / 16 ≡ a) × ((a * 16 + d) % 16 ≡ d)
 shift a d h = (omega arith, omega arith)

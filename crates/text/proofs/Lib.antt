@@ -1,3 +1,4 @@
 pub mod Hex
+pub mod Again
 pub mod Lines
 pub mod Digits

@@ -1,5 +1,6 @@
 pub mod Main
 pub mod Front
+pub mod Again
 pub mod Written
 pub mod Answers
 pub mod Accepted

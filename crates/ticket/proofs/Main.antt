@@ -18,6 +18,7 @@ use Rattle.ticket.proofs.Reader as reader
 use Rattle.ticket.proofs.Accepted as accepting
 use Rattle.ticket.proofs.Written as writing
 use Rattle.ticket.proofs.Front as front
+use Rattle.ticket.proofs.Again as again
 
 -- Every text is answered as the table of refusals says, on exactly the stated conditions and in the stated order.
 pub parse-says : (t : List ℕ) → Says t (parse t)
@@ -57,6 +58,10 @@ module _ (t : List ℕ) (h : Header) (cards : List ℕ) (e : parse t ≡ accepte
   -- The line handed back for a position is that frame's card in 2 digits.
   pub line-card : (p : ℕ) → p < length cards → lineOf t p ≡ hex lineDigits (cardOf cards p)
   line-card = writing.line-back-at t h cards e
+
+-- Values within the limits, written as a ticket, are accepted as what they are.
+pub written-accepted : (h : Header) (cards : List ℕ) → Fits h cards → parse (ticketText h cards) ≡ accepted h cards
+written-accepted = again.accepted-again
 
 -- Two texts that are accepted with the same values are the same text.
 pub same-values : (s t : List ℕ) (h : Header) (cards : List ℕ) → parse s ≡ accepted h cards → parse t ≡ accepted h cards → s ≡ t

@@ -5,9 +5,8 @@ use mathlib.Core.Path.{_≡_, refl, sym, ap, _∙_}
 use mathlib.Core.Bool.{true}
 use mathlib.Core.List.{List, [], _∷_, _++_, append-assoc, append-nil}
 use native.Mathlib.Omega.{arith}
-use native.Mathlib.Nat.{zero-add, suc-add}
 use lib.ListN.{length, take, drop, length-drop, take-append-drop}
-use lib.Seq.{take-nil, take-suc, take-all, getD-drop, drop-drop}
+use lib.Seq.{take-add, take-suc, take-all, getD-drop, drop-drop}
 use borrow.Author.Tests.{lt-ltb}
 use Rattle.schedule.specs.Count.{tabulate}
 use Rattle.schedule.specs.Schedule.{cardOf}
@@ -22,12 +21,6 @@ use Rattle.ticket.specs.Print.{headerText, lineTexts, ticketText}
 use Rattle.ticket.specs.Ticket.{accepted, parse, lineDigits, lineBytes, cardAt, lineOf}
 use Rattle.ticket.proofs.Accepted.{row, as-many, card-at}
 use Rattle.header.specs.declared.Header.{Header}
-
--- a list cut in two
-take-add : (a b : ℕ) (l : List ℕ) → take (a + b) l ≡ take a l ++ take b (drop a l)
-take-add zero b l = rw zero-add
-take-add (suc a) b [] = take-nil (suc a + b) ∙ sym (take-nil b)
-take-add (suc a) b (x ∷ l) = rw suc-add (ap (λ (r : List ℕ). x ∷ r) (take-add a b l))
 
 lines-append : (xs ys : List ℕ) → lineTexts (xs ++ ys) ≡ lineTexts xs ++ lineTexts ys
 unfolding lineTexts
