@@ -1,0 +1,55 @@
+-- `cases::output::small_list` meets its contract.
+-- Assumes nothing.
+use Prim.Native.Nat.{_≤_, _-_}
+use borrow.Author.Needs.{needs}
+use Rattle.cases.proofs.output.small_list.Statement.{statement}
+use Rattle.cases.proofs.output.small_list.Tie as tie
+
+abbrev Inv-loop : tie.InvT-loop
+Inv-loop a n width i₀ i = i ≤ n
+
+abbrev μ-loop : tie.MeasureT-loop
+μ-loop a n width i₀ i = n - i
+
+loop-holds : tie.Need-loop-holds Inv-loop μ-loop
+loop-holds c = search needs
+
+shared-slice-read-small-wide : tie.Need-shared-slice-read-small-wide Inv-loop μ-loop
+shared-slice-read-small-wide c = search needs
+
+small-wide-requires : tie.Need-small-wide-requires Inv-loop μ-loop
+small-wide-requires c κs = search needs
+
+number-requires : tie.Need-number-requires Inv-loop μ-loop
+number-requires c κs = search needs
+
+spaces-requires : tie.Need-spaces-requires Inv-loop μ-loop
+spaces-requires c κs = search needs
+
+add-i : tie.Need-add-i Inv-loop μ-loop
+add-i c = search needs
+
+loop-less : tie.Need-loop-less Inv-loop μ-loop
+loop-less c = search needs
+
+loop-again : tie.Need-loop-again Inv-loop μ-loop
+loop-again c = search needs
+
+returns : tie.Need-returns Inv-loop μ-loop
+returns c = search needs
+
+pub small-list-spec : {M : Type 1} → statement M
+small-list-spec =
+    tie.close
+    (tie.spec
+    Inv-loop
+    μ-loop
+    loop-holds
+    shared-slice-read-small-wide
+    small-wide-requires
+    number-requires
+    spaces-requires
+    add-i
+    loop-less
+    loop-again
+    returns)

@@ -1,0 +1,67 @@
+-- `cases::tables::each` meets its contract.
+-- Assumes nothing.
+use Prim.Native.Nat.{_≤_, _-_}
+use borrow.Author.Needs.{needs}
+use Rattle.cases.proofs.tables.each.Statement.{statement}
+use Rattle.cases.proofs.tables.each.Tie as tie
+
+abbrev Inv-loop : tie.InvT-loop
+Inv-loop table how n from₀ i₀ from i = (i ≤ n) × (from ≤ i)
+
+abbrev μ-loop : tie.MeasureT-loop
+μ-loop table how n from₀ i₀ from i = n - i
+
+loop-holds : tie.Need-loop-holds Inv-loop μ-loop
+loop-holds c = search needs
+
+add-i : tie.Need-add-i Inv-loop μ-loop
+add-i c = search needs
+
+shared-slice-read-if1 : tie.Need-shared-slice-read-if1 Inv-loop μ-loop
+shared-slice-read-if1 c = search needs
+
+sub-show-entry : tie.Need-sub-show-entry Inv-loop μ-loop
+sub-show-entry c = search needs
+
+part-show-entry-start : tie.Need-part-show-entry-start Inv-loop μ-loop
+part-show-entry-start c = search needs
+
+part-show-entry-end : tie.Need-part-show-entry-end Inv-loop μ-loop
+part-show-entry-end c = search needs
+
+show-entry-requires : tie.Need-show-entry-requires Inv-loop μ-loop
+show-entry-requires c κs = search needs
+
+loop-less : tie.Need-loop-less Inv-loop μ-loop
+loop-less c = search needs
+
+loop-again : tie.Need-loop-again Inv-loop μ-loop
+loop-again c = search needs
+
+loop-less-2 : tie.Need-loop-less-2 Inv-loop μ-loop
+loop-less-2 c = search needs
+
+loop-again-2 : tie.Need-loop-again-2 Inv-loop μ-loop
+loop-again-2 c = search needs
+
+returns : tie.Need-returns Inv-loop μ-loop
+returns c = search needs
+
+pub each-spec : {M : Type 1} → statement M
+each-spec =
+    tie.close
+    (tie.spec
+    Inv-loop
+    μ-loop
+    loop-holds
+    add-i
+    shared-slice-read-if1
+    sub-show-entry
+    part-show-entry-start
+    part-show-entry-end
+    show-entry-requires
+    loop-less
+    loop-again
+    loop-less-2
+    loop-again-2
+    returns)

@@ -1,0 +1,159 @@
+// Plans that anyone made: the checker's verdict on each, and its run on the dock.
+// A plan is written with a digit for each cycle, and L for the largest number, 65,535.
+use crate::output;
+use crate::tables;
+use crate::tables::Show;
+use checker::Verdict;
+use replay::Answer;
+use replay::Outcome;
+use replay::Run;
+
+fn at_fault(name: &[u8], position: u16) {
+    output::text(name);
+    output::number(position as u64, 6);
+    output::spaces(12);
+}
+
+// The verdict; the position at fault, or the number of a refusal; T and the peak.
+pub(crate) fn verdict(v: Verdict) {
+    match v {
+        Verdict::Valid(cycles, peak) => {
+            output::text(b"   valid               ");
+            output::number(cycles.0 as u64, 6);
+            output::number(peak as u64, 6);
+        }
+        Verdict::NoCycle(p) => at_fault(b"   cycle 0       ", p.0),
+        Verdict::SharedCard(p) => at_fault(b"   shares a card ", p.0),
+        Verdict::Overfull(p) => at_fault(b"   overfull      ", p.0),
+        Verdict::Refused(k) => at_fault(b"   refused       ", k as u16),
+    }
+}
+
+// The cycles needed, 0 where the run is unfinished; frames handed over, cycles ended, peak; whether it broke off.
+fn outcome(r: Run) {
+    let end = r.outcome;
+    let ended = r.ended;
+    match end {
+        Outcome::Complete(needed) => {
+            output::text(b"   complete  ");
+            output::number(needed.0 as u64, 5);
+        }
+        Outcome::Unfinished => output::text(b"   unfinished     "),
+    }
+    output::number(r.delivered as u64, 6);
+    output::number(ended.0 as u64, 6);
+    output::number(r.peak as u64, 6);
+    output::yes_or_no(r.broken);
+}
+
+pub(crate) fn run(a: Answer) {
+    match a {
+        Answer::Ran(r) => outcome(r),
+        Answer::Refused(k) => {
+            output::text(b"   refused   ");
+            output::number(k as u64, 5);
+        }
+    }
+}
+
+fn cycle(b: u8) -> u16 {
+    if b < b'0' {
+        return 0;
+    }
+    if b'9' < b {
+        return 65535;
+    }
+    (b - b'0') as u16
+}
+
+fn read_plan(text: &[u8], plan: &mut [u16]) {
+    let n = text.len();
+    let mut i: usize = 0;
+    while i < n {
+        let at = i;
+        i += 1;
+        if at < plan.len() {
+            plan[at] = cycle(text[at]);
+        }
+    }
+}
+
+// With the first n cycles of the plan.
+fn check_and_run(t: &[u8], plan: &[u16], n: usize) {
+    let start: usize = 0;
+    if n <= plan.len() {
+        let given = &plan[start..n];
+        output::ticket(t);
+        output::list(given, 4, 6);
+        verdict(checker::check(t, given));
+        run(replay::run_plan(t, given));
+    }
+}
+
+pub(crate) fn checked(t: &[u8], text: &[u8]) {
+    let mut plan = [0u16; 4];
+    read_plan(text, &mut plan);
+    check_and_run(t, &plan, text.len());
+}
+
+pub(crate) fn all() {
+    output::text(
+        b"\nPLANS CHECKED AND RUN\n\
+        checker::check judges a plan: at is the position at fault, or the number of a refusal. replay::run_plan runs the same plan on the dock.\n\n\
+        \x20                                                       check                                run_plan            handed\n\
+        ticket                          plan                       verdict            at     T  peak   outcome    needed  over ended  peak  broken\n",
+    );
+    tables::each(
+        b"01000200020003\n00\n00\n01\n 121;\
+        01000200020003\n00\n00\n01\n 212;\
+        01000200030003\n00\n00\n01\n 212;\
+        01000200010003\n00\n00\n01\n 122;\
+        01000200010003\n00\n00\n01\n 112;\
+        01000200020003\n00\n00\n01\n 112;\
+        01000200020003\n00\n00\n01\n 133;\
+        01000200020003\n00\n00\n01\n 122;\
+        01000200010003\n00\n00\n01\n 123;\
+        01000200020004\n00\n00\n00\n01\n 1233;\
+        01000300030004\n00\n01\n02\n00\n 1222;\
+        01000300020004\n00\n01\n02\n00\n 1122;\
+        01000200020003\n00\n00\n01\n 012;\
+        01000200020003\n00\n00\n01\n 102;\
+        01000200010003\n00\n00\n01\n 102;\
+        01000200030003\n00\n00\n01\n 120;\
+        01000200030003\n00\n00\n01\n 110;\
+        01000200010003\n00\n00\n01\n 12L;\
+        01000200030003\n00\n00\n01\n L12;\
+        01000200020003\n00\n00\n01\n L12;\
+        01000200020000\n ;",
+        Show::Checked,
+    );
+    output::text(b"\n");
+    tables::each(
+        b"01010200020003\n00\n00\n01\n 122;\
+        01010300030004\n00\n01\n02\n00\n 1112;\
+        01010200020003\n00\n00\n01\n 212;\
+        01010200010003\n00\n00\n01\n 212;\
+        01010200020003\n00\n00\n01\n 121;\
+        01010200030003\n00\n00\n01\n 121;\
+        01010200020003\n00\n00\n01\n 112;\
+        01010200010003\n00\n00\n01\n 112;\
+        01010200010002\n00\n01\n 11;\
+        01010200020003\n00\n00\n01\n 102;\
+        01010200030003\n00\n00\n01\n 120;\
+        01010200020003\n00\n00\n01\n L1L;\
+        01010200020000\n ;",
+        Show::Checked,
+    );
+    output::text(b"\n");
+    tables::each(
+        b"01000200020003\n00\n00\n01\n 12;\
+        01000200020003\n00\n00\n01\n 1222;\
+        01010200020003\n00\n00\n01\n 12;\
+        01010200020003\n00\n00\n01\n ;\
+        01000200020000\n 1;\
+        01020200020003\n00\n00\n01\n 122;\
+        01020200020003\n00\n00\n01\n 12;\
+        01020200020000\n ;",
+        Show::Checked,
+    );
+}

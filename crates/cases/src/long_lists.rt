@@ -1,0 +1,110 @@
+// Long lists: 4,096 frames on 32 cards in three layouts. A ticket of the table is a header; its lines are made here.
+use crate::checks;
+use crate::output;
+use crate::plans;
+use crate::tables;
+use crate::tables::Show;
+
+// The card of frame i, by the first letter of the layout: one card, round robin, or blocks.
+fn card_of(layout: u8, i: u16) -> u8 {
+    if layout == b'r' {
+        return (i % 32) as u8;
+    }
+    if layout == b'b' {
+        return (i / 128 % 32) as u8;
+    }
+    0
+}
+
+fn put(text: &mut [u8], at: usize, b: u8) {
+    if at < text.len() {
+        text[at] = b;
+    }
+}
+
+fn digit(d: u8) -> u8 {
+    if d < 10 { b'0' + d } else { b'7' + d % 16 }
+}
+
+// The line of frame i.
+fn put_line(text: &mut [u8], i: u16, card: u8) {
+    let at = 15 + 3 * (i as usize);
+    put(text, at, digit(card / 16));
+    put(text, at + 1, digit(card % 16));
+    put(text, at + 2, b'\n');
+}
+
+fn put_lines(text: &mut [u8], layout: u8, n: u16) {
+    let mut i: u16 = 0;
+    while i < n {
+        put_line(text, i, card_of(layout, i));
+        i += 1;
+    }
+}
+
+fn put_header(text: &mut [u8], header: &[u8]) {
+    let n = header.len();
+    let mut i: usize = 0;
+    while i < n {
+        put(text, i, header[i]);
+        i += 1;
+    }
+}
+
+fn wide(x: u16) -> u64 {
+    x as u64
+}
+
+// The sum of (L - i) times the cycle of frame i, modulo 65,521: each cycle is added to a running sum, which is added up in turn.
+fn checksum(plan: &[u16]) -> u64 {
+    let n = plan.len();
+    let mut running: u64 = 0;
+    let mut sum: u64 = 0;
+    let mut i: usize = 0;
+    while i < n {
+        running = std::num::wrapping_add_u64(running, wide(plan[i])) % 65521;
+        sum = std::num::wrapping_add_u64(sum, running) % 65521;
+        i += 1;
+    }
+    sum
+}
+
+fn plan(t: &[u8], buffer: &mut [u16]) {
+    plans::answer(planner::plan(t, buffer));
+    output::number(checksum(buffer), 10);
+    checks::verdict(checker::check(t, buffer));
+    checks::run(replay::run_plan(t, buffer));
+}
+
+pub(crate) fn planned(header: &[u8], layout: &[u8]) {
+    let mut text = [0u8; 12303];
+    let mut buffer = [0u16; 4096];
+    output::left(layout, 12);
+    output::left(header, 17);
+    put_header(&mut text, header);
+    put_lines(&mut text, tables::byte_at(layout, 0), 4096);
+    plan(&text, &mut buffer);
+}
+
+pub(crate) fn all() {
+    output::text(
+        b"\nLONG LISTS\n\
+        4,096 frames on 32 cards. Frame i is on card 0 (one card), on card i modulo 32 (round robin), or on card i / 128 (blocks).\n\
+        The checksum of a plan is the sum of (4,096 - i) times the cycle of frame i, over all i, modulo 65,521. A plan is run whatever\n\
+        its mode; only the plan of a read is made for it.\n\n\
+        \x20                                                     check                              run_plan          handed\n\
+        layout      header           plan          checksum   verdict           at     T  peak   outcome   needed  over ended  peak  broken\n",
+    );
+    tables::each(
+        b"01002000011000\n one card;01012000011000\n one card;01022000011000\n one card;\
+        01002000C01000\n one card;01012000C01000\n one card;01022000C01000\n one card;\
+        01002004001000\n one card;01012004001000\n one card;01022004001000\n one card;\
+        01002000011000\n round robin;01012000011000\n round robin;01022000011000\n round robin;\
+        01002000C01000\n round robin;01012000C01000\n round robin;01022000C01000\n round robin;\
+        01002004001000\n round robin;01012004001000\n round robin;01022004001000\n round robin;\
+        01002000011000\n blocks;01012000011000\n blocks;01022000011000\n blocks;\
+        01002000C01000\n blocks;01012000C01000\n blocks;01022000C01000\n blocks;\
+        01002004001000\n blocks;01012004001000\n blocks;01022004001000\n blocks;",
+        Show::LongList,
+    );
+}

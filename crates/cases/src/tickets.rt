@@ -1,0 +1,111 @@
+// Accepted tickets: the header's fields, the cards of the frames, the frames of each card, and the lines.
+use crate::output;
+use crate::tables;
+use crate::tables::Show;
+use header::Answer;
+use schedule::Position;
+
+// The five fields of a header, or the number of its refusal.
+fn fields(a: Answer) {
+    match a {
+        Answer::Accepted(h) => {
+            output::number(h.edition as u64, 7);
+            output::number(h.mode as u64, 7);
+            output::number(h.cards as u64, 7);
+            output::number(h.pool as u64, 7);
+            output::number(h.frames as u64, 7);
+        }
+        Answer::Refused(k) => {
+            output::text(b" refused");
+            output::number(k as u64, 27);
+        }
+    }
+}
+
+// The cards that have frames, as card:frames.
+fn frames_of_cards(count: [u16; 32]) {
+    let n: usize = 32;
+    let mut i: usize = 0;
+    let mut none = true;
+    while i < n {
+        let card = i;
+        let frames = count[i];
+        i += 1;
+        if frames != 0 {
+            output::of_card(card, frames);
+            none = false;
+        }
+    }
+    if none {
+        output::text(b" none");
+    }
+}
+
+// What heading, parse and counts say of a ticket.
+pub(crate) fn accepted(t: &[u8]) {
+    output::ticket(t);
+    fields(header::heading(t));
+    let ticket = ticket::parse(t);
+    let answer = ticket.answer;
+    let card = ticket.card;
+    fields(answer);
+    output::small_list(&card, 5, 3);
+    frames_of_cards(ticket::counts(t));
+}
+
+// The line at a position, and the number beside it.
+fn line(t: &[u8], position: u16) {
+    output::ticket(t);
+    output::number(position as u64, 9);
+    output::number(ticket::line_refusal(t, Position(position)) as u64, 9);
+    output::spaces(2);
+    output::byte(b'"');
+    output::text(ticket::line(t, Position(position)));
+    output::byte(b'"');
+    output::byte(b'\n');
+}
+
+// The lines at the first four positions, and at the largest number.
+pub(crate) fn lines(t: &[u8]) {
+    line(t, 0);
+    line(t, 1);
+    line(t, 2);
+    line(t, 3);
+    line(t, 65535);
+}
+
+pub(crate) fn all() {
+    output::text(
+        b"\nACCEPTED TICKETS\n\
+        header::heading and ticket::parse give the fields of the header. parse gives the card of each frame too, 0 past the last one: the\n\
+        first five places are shown. ticket::counts gives the frames of each card: those that are not 0 are shown, as card:frames.\n\n\
+        \x20                                heading                            parse\n\
+        ticket                          edition   mode  cards   pool frames edition   mode  cards   pool frames cards of frames counts\n",
+    );
+    tables::each(
+        b"01000200020003\n00\n00\n01\n;\
+        01010200020003\n00\n00\n01\n;\
+        01020200020003\n00\n00\n01\n;\
+        01000200020000\n;\
+        01000100020000\n;\
+        01002000020000\n;\
+        01000200010000\n;\
+        01000204000000\n;\
+        01002000020002\n1F\n00\n;\
+        010110000A0004\n0A\n0F\n09\n0A\n;",
+        Show::Accepted,
+    );
+    output::text(
+        b"\nLINES\n\
+        ticket::line gives the line at a position, ticket::line_refusal the number beside it: 0, or a refusal beside an empty line.\n\n\
+        ticket                           position  refusal  line\n",
+    );
+    tables::each(
+        b"01000300020003\n00\n02\n01\n;\
+        01000200020000\n;\
+        01000300020003\n00\n02\n;\
+        01000300020003\n00\n02\n03\n;\
+        01000300020003\n00\n02\n01\n00\n;",
+        Show::Lines,
+    );
+}
