@@ -43,7 +43,7 @@ refusal-length number =
     omega (arith, length-append (hex 2 255) b, length-append (hex 2 number) endOfLine, length-hex 2 255, length-hex 2 number)
 
 -- T and the end of the line
-pub put-head : (l x : List ℕ) (T : ℕ) → x ≡ sets l 0 (hex 4 T) → set x 4 endByte ≡ sets l 0 (hex 4 T ++ endOfLine)
+put-head : (l x : List ℕ) (T : ℕ) → x ≡ sets l 0 (hex 4 T) → set x 4 endByte ≡ sets l 0 (hex 4 T ++ endOfLine)
 put-head l x T e = rw e (sets-append l 0 (hex 4 T) endOfLine 4 (rw (length-hex 4 T)))
 
 pub head-length : (l x y : List ℕ) (T : ℕ) (text : List ℕ) → x ≡ sets l 0 (hex 4 T) → y ≡ sets (set x 4 endByte) 5 text → length y ≡ length l
@@ -79,7 +79,7 @@ module _ (ticket plan : List ℕ) where
   linesFrom zero = []
   linesFrom (suc n) = linesFrom n ++ lineFrom n
 
-  pub lines-long : (n : ℕ) → length (linesFrom n) ≡ 11 * n
+  lines-long : (n : ℕ) → length (linesFrom n) ≡ 11 * n
   unfolding linesFrom
   lines-long zero = refl
   lines-long (suc n) = omega (arith, length-append (linesFrom n) (lineFrom n), lines-long n, line-long n (getD plan n 0) (getD ticket (15 + 3 * n) 0 ∷ getD ticket (16 + 3 * n) 0 ∷ []) refl)
@@ -140,7 +140,7 @@ module _ (ticket : List ℕ) (T : ℕ) (plan : List ℕ) (made : Made ticket T p
   lines-are (suc i) l = rw (lines-are i (omega (arith, l))) (ap (λ (w : List ℕ). frameLines cards cycles i ++ w) (line-are i (omega (arith, l))))
 
   -- T and the lines of all frames are the printed plan
-  pub text-is : (hex 4 T ++ endOfLine) ++ linesFrom ticket plan (length cards) ≡ printed ticket
+  text-is : (hex 4 T ++ endOfLine) ++ linesFrom ticket plan (length cards) ≡ printed ticket
   unfolding textOf planText
   text-is = rw (made .read, ← made .length-is, lines-are (length cards) (omega arith))
 

@@ -18,13 +18,13 @@ sets-append l i [] b k e =
     rw f
 sets-append l i (x ∷ a) b k e = sets-append (set l i x) (suc i) a b k (omega (arith, e))
 
-pub hex-2 : (v : ℕ) → v < 256 → hex 2 v ≡ digitOf (v / 16) ∷ digitOf (v % 16) ∷ []
+hex-2 : (v : ℕ) → v < 256 → hex 2 v ≡ digitOf (v / 16) ∷ digitOf (v % 16) ∷ []
 unfolding hex
 hex-2 v h =
     let e : v / 16 % 16 ≡ v / 16 = omega arith in
     rw e
 
-pub hex-4 : (v : ℕ) → hex 4 v ≡ hex 2 (v / 256) ++ hex 2 (v % 256)
+hex-4 : (v : ℕ) → hex 4 v ≡ hex 2 (v / 256) ++ hex 2 (v % 256)
 unfolding hex
 hex-4 v =
     let a : v / 16 / 16 / 16 ≡ v / 256 / 16 = omega arith in
