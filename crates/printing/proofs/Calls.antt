@@ -7,28 +7,25 @@ use mathlib.Core.List.{List}
 use native.Mathlib.Omega.{arith}
 use lib.Dec.{ltb}
 use lib.ListN.{length, drop, length-append}
-use lib.Seq.{take-at}
 use borrow.Author.Tests.{le-ltb}
 use Rattle.schedule.specs.Greedy.{Plan}
 use Rattle.schedule.specs.declared.Cycle.{Cycle}
 use Rattle.header.specs.Limits.{maxFrames}
 use Rattle.header.specs.declared.Header.{Header}
 use Rattle.ticket.specs.Ticket.{Parsed, accepted, refused, parse}
-use Rattle.ticket.proofs.Main.{accepted-fits}
-use Rattle.planner.specs.Plan.{lengthIn, planFor, answerTo, bufferAfter}
+use Rattle.ticket.proofs.Main.{accepted-fits, accepted-few}
+use Rattle.planner.specs.Plan.{planFor, answerTo, bufferAfter}
 use Rattle.planner.specs.declared.Answer.{Answer}
 use Rattle.planner.specs.declared.Answer.the-variants.{Planned, Refused}
 use Rattle.planner.proofs.Plans.{plan-length}
+use Rattle.planner.proofs.Demand.{so-of-call}
 use Rattle.printing.specs.Printed.{textOf, printed, refusalText}
 use Rattle.printing.specs.Put.{Made}
 
 module _ (t before : List ℕ) (n : length before ≡ maxFrames) where
   module _ (h : Header) (cards : List ℕ) (e : parse t ≡ accepted h cards) where
-    few : length cards ≤ maxFrames
-    few = omega (arith, accepted-fits t h cards e .frames, accepted-fits t h cards e .few)
-
     has-room : ltb (length before) (length cards) ≡ false
-    has-room = le-ltb (length before) (length cards) (omega (arith, n, few))
+    has-room = le-ltb (length before) (length cards) (omega (arith, n, accepted-few t h cards e))
 
     abbrev plan : Plan
     plan = planFor (h .mode) (h .pool) cards
@@ -44,14 +41,9 @@ module _ (t before : List ℕ) (n : length before ≡ maxFrames) where
     unfolding bufferAfter
     made after T a b =
         let w = rw has-room at b in
-        record {
-          header = h;
-          cards = cards;
-          read = e;
-          room = omega (arith, ap length w, length-append (plan .cycles) (drop (length (plan .cycles)) before), as-many);
-          length-is = ap lengthIn (a ∙ answered);
-          cycles = rw w (take-at (plan .cycles) (drop (length (plan .cycles)) before) (length cards) as-many);
-        }
+        let room : length cards ≤ length after = omega (arith, ap length w, length-append (plan .cycles) (drop (length (plan .cycles)) before), as-many) in
+        let call = so-of-call h cards before after (Planned T) (record { answer = a; buffer = b }) room (λ cycles t. (t ≡ plan .T) × (cycles ≡ plan .cycles)) as-many (refl, refl) in
+        record { header = h; cards = cards; read = e; room = room; length-is = call .1 .0; cycles = call .1 .1 }
 
   made-from :
       (p : Parsed) → parse t ≡ p → (after : List ℕ) (T : Cycle) → Planned T ≡ answerTo p (length before) → after ≡ bufferAfter p before → Made t (T .0) after

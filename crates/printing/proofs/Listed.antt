@@ -16,7 +16,7 @@ use Rattle.text.specs.Text.{endByte}
 use Rattle.header.specs.Limits.{maxFrames}
 use Rattle.header.specs.declared.Header.{Header}
 use Rattle.ticket.specs.Ticket.{lineOf, lineDigits}
-use Rattle.ticket.proofs.Main.{accepted-length, accepted-fits, line-card}
+use Rattle.ticket.proofs.Main.{accepted-length, accepted-few, line-card}
 use Rattle.planner.specs.Plan.{planFor}
 use Rattle.printing.specs.Printed.{frameLine, frameLines, planText, textOf, printed, refusalText}
 use Rattle.printing.specs.Put.{Made, Put}
@@ -112,7 +112,7 @@ module _ (ticket : List ℕ) (T : ℕ) (plan : List ℕ) (made : Made ticket T p
   frames-is = omega (arith, long)
 
   pub frames-few : length cards ≤ maxFrames
-  frames-few = omega (arith, accepted-fits ticket h cards (made .read) .frames, accepted-fits ticket h cards (made .read) .few)
+  frames-few = accepted-few ticket h cards (made .read)
 
   line-is : (i : ℕ) → i < length cards → lineOf ticket i ≡ take lineDigits (drop (15 + 3 * i) ticket)
   unfolding lineOf

@@ -16,8 +16,7 @@ use Rattle.printing.proofs.Listed.{plan-long, refusal-length}
 text-short : (t : List ℕ) (p : Parsed) → parse t ≡ p → length (textOf p) ≤ 45061
 unfolding textOf
 text-short t (accepted h cards) e =
-    let f = ticket.accepted-fits t h cards e in
-    omega (arith, plan-long cards (planFor (h .mode) (h .pool) cards), f .frames, f .few)
+    omega (arith, plan-long cards (planFor (h .mode) (h .pool) cards), ticket.accepted-few t h cards e)
 text-short t (refused k) e = omega (arith, refusal-length k)
 
 pub room-for-every-text : (t : List ℕ) → length (printed t) ≤ 45061

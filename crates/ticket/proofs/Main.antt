@@ -1,7 +1,7 @@
 -- The public theorems about tickets: the answer to every text (demand 1), and what an accepted ticket is.
 -- Texts are lists of bytes, of any length and content. The definitions are in specs/: Ticket, Grounds and Print.
 -- Assumes nothing.
-use Prim.Native.Nat.{ℕ, _+_, _*_, _<_}
+use Prim.Native.Nat.{ℕ, _+_, _*_, _≤_, _<_}
 use mathlib.Core.Path.{_≡_, refl, sym, _∙_}
 use mathlib.Core.List.{List}
 use mathlib.Core.Logic.{_⊎_, inl, inr}
@@ -46,6 +46,10 @@ module _ (t : List ℕ) (h : Header) (cards : List ℕ) (e : parse t ≡ accepte
   -- The values of an accepted ticket are within the limits.
   pub accepted-fits : Fits h cards
   accepted-fits = accepting.fits t h cards e
+
+  -- It has no more frames than the limit.
+  pub accepted-few : length cards ≤ maxFrames
+  accepted-few = rw (accepted-fits .frames) (accepted-fits .few)
 
   -- Its text is its header and a line for each frame, and no byte more.
   pub accepted-length : length t ≡ headerBytes + lineBytes * length cards
