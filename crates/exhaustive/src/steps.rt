@@ -178,8 +178,7 @@ fn explore(
     fewest
 }
 
-// The longest lists of steps, for a list of n frames. A read of each and the ends of up to n cycles fit, and no T is above n: the fewest
-// cycles found are the fewest there are.
+// The longest lists of steps, for a list of n frames. A read of each and the ends of up to n cycles fit, and no T is above n: so T is reached.
 fn longest(n: usize) -> usize {
     if n < 3 { 8 } else { 7 }
 }
