@@ -1,6 +1,6 @@
 -- What the public calls answer, from what the parts of the reader found.
 -- Assumes nothing.
-use Prim.Native.Nat.{ℕ, _+_, _*_, _-_, _≤_, _<_}
+use Prim.Native.Nat.{ℕ, _+_, _-_, _≤_, _<_}
 use mathlib.Core.Path.{_≡_, refl, sym, ap, _∙_}
 use mathlib.Core.List.{List, [], _++_}
 use native.Mathlib.Omega.{arith}
@@ -15,7 +15,8 @@ use Rattle.schedule.proofs.Lists.{from-place, drop-replicate, length-tabulate}
 use Rattle.header.specs.Heading.{headerBytes, heading}
 use Rattle.header.specs.Limits.{maxCards, maxFrames}
 use Rattle.ticket.specs.Grounds.{Fits}
-use Rattle.ticket.specs.Ticket.{Parsed, accepted, refused, lineBytes, lineDigits, cardAt, partFault, parse, ticketOf, lineRefusalOf, lineOf, countsUpTo, countsOf, zeros}
+use Rattle.ticket.specs.Part.{place}
+use Rattle.ticket.specs.Ticket.{Parsed, accepted, refused, lineBytes, lineDigits, cardAt, partFault, parse, ticketOf, lineRefusalOf, lineStart, lineIn, lineOf, linePlace, countsUpTo, countsOf, zeros}
 use Rattle.ticket.proofs.Accepted.{as-many, fits, line-inside}
 use Rattle.ticket.proofs.Counting.{counts-front}
 use Rattle.ticket.proofs.Reader.{header-passes, header-read, refusal-number}
@@ -72,27 +73,45 @@ module _ (t : List ℕ) (x : Ticket) (e : x ≡ ticketOf (parse t)) where
   pub not-below : (h : Header) (p : ℕ) → x .answer ≡ Accepted h → h .frames ≤ p → 16 ≡ lineRefusalOf (parse t) p
   not-below h p q l = let r = was-accepted h q in rw (r .1, le-ltb p (length (r .0)) (rw (as-many t h (r .0) (r .1)) l))
 
+-- where a part stands that begins at byte i of a slice; at byte 0 it stands where the slice does
+module _ (start : ℕ × ℕ) where
+  pub stands : {i j : ℕ} → i ≡ j → _≡_ {A = ℕ × ℕ} (start .0, i + start .1) (place start j)
+  stands {i} {j} e = ap (λ (k : ℕ). (start .0, k)) (let q : i + start .1 ≡ start .1 + j = omega (arith, e) in q)
+
+  pub stands-first : _≡_ {A = ℕ × ℕ} (start .0, 0 + start .1) start
+  stands-first = ap (λ (k : ℕ). (start .0, k)) (let q : 0 + start .1 ≡ start .1 = omega arith in q)
+
+-- the part of any bytes that is cut out where a line begins
+pub cut-line : (t : List ℕ) (p : ℕ) {at : ℕ} → at ≡ lineStart p → take (at + lineDigits - at) (drop at t) ≡ lineIn t p
+cut-line t p {at} a = let n : at + lineDigits - at ≡ lineDigits = omega arith in rw (n, a)
+
 -- a frame's line
 module _ (t : List ℕ) (p : ℕ) where
-  pub no-line : {k : ℕ} → k ≡ lineRefusalOf (parse t) p → (k ≡ 0 → ⊥) → [] ≡ lineOf t p
-  unfolding lineOf
-  no-line e n = rw (← e, ne-eqb _ _ n)
+  module _ {k : ℕ} (e : k ≡ lineRefusalOf (parse t) p) (n : k ≡ 0 → ⊥) where
+    pub no-line : [] ≡ lineOf t p
+    unfolding lineOf
+    no-line = rw (← e, ne-eqb _ _ n)
+
+    pub no-place : 0 ≡ linePlace t p
+    unfolding linePlace
+    no-place = rw (← e, ne-eqb _ _ n)
 
   module _ (e : 0 ≡ lineRefusalOf (parse t) p) where
-    inside : (a : Parsed) → parse t ≡ a → 0 ≡ lineRefusalOf a p → headerBytes + lineBytes * p + lineBytes ≤ length t
+    inside : (a : Parsed) → parse t ≡ a → 0 ≡ lineRefusalOf a p → lineStart p + lineBytes ≤ length t
     inside (accepted h cards) q z =
         line-inside t h cards q p (by-cases (ltb p (length cards)) (λ l. ltb-true _ _ l) (λ l. absurd (omega (arith, rw l at z))))
     inside (refused k) q z = absurd (omega (arith, refusal-number t k q .0))
 
-    pub line-fits : headerBytes + lineBytes * p + lineBytes ≤ length t
+    pub line-fits : lineStart p + lineBytes ≤ length t
     line-fits = inside (parse t) refl e
 
-    pub the-line :
-        take (headerBytes + lineBytes * p + lineDigits - (headerBytes + lineBytes * p)) (drop (headerBytes + lineBytes * p) t) ≡ lineOf t p
+    pub the-line : {at : ℕ} → at ≡ lineStart p → take (at + lineDigits - at) (drop at t) ≡ lineOf t p
     unfolding lineOf
-    the-line =
-        let n : headerBytes + lineBytes * p + lineDigits - (headerBytes + lineBytes * p) ≡ lineDigits = omega arith in
-        rw (n, ← e)
+    the-line a = cut-line t p a ∙ rw (← e)
+
+    pub its-place : lineStart p ≡ linePlace t p
+    unfolding linePlace
+    its-place = rw (← e)
 
 -- the array of an accepted ticket: its cards stand at the front
 module _ (h : Header) (cards rest card : List ℕ) (f : Fits h cards) (a : card ≡ cards ++ rest) where

@@ -1,3 +1,4 @@
 pub mod Ticket
 pub mod Grounds
 pub mod Print
+pub mod Part

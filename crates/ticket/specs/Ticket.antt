@@ -82,9 +82,21 @@ abbrev pub lineRefusalOf : Parsed → ℕ → ℕ
 lineRefusalOf (accepted h cards) p = cond (ltb p (length cards)) 0 16
 lineRefusalOf (refused k) p = k
 
+-- the byte of a ticket at which the line of frame p begins
+abbrev pub lineStart : ℕ → ℕ
+lineStart p = headerBytes + lineBytes * p
+
+-- the bytes of that line, without its end byte
+abbrev pub lineIn : List ℕ → ℕ → List ℕ
+lineIn t p = take lineDigits (drop (lineStart p) t)
+
 -- "that frame's line as a part of the caller's own ticket, without its end byte"; empty with a refusal
 unfoldable pub lineOf : List ℕ → ℕ → List ℕ
-lineOf t p = cond (eqb (lineRefusalOf (parse t) p) 0) (take lineDigits (drop (headerBytes + lineBytes * p) t)) []
+lineOf t p = cond (eqb (lineRefusalOf (parse t) p) 0) (lineIn t p) []
+
+-- and the byte of the ticket at which this part begins; the empty part stands at the ticket's first byte
+unfoldable pub linePlace : List ℕ → ℕ → ℕ
+linePlace t p = cond (eqb (lineRefusalOf (parse t) p) 0) (lineStart p) 0
 
 -- for each of the 32 cards, how many of the first n frames it has
 abbrev pub countsUpTo : List ℕ → ℕ → List ℕ

@@ -1,7 +1,8 @@
 // The ticket's text: what it says, or the number of the one refusal that it gets. Everything that takes a ticket goes through here.
 ghost use mathlib.Core.Path.{_≡_};
 ghost use Rattle.header.specs.Heading.{heading};
-ghost use Rattle.ticket.specs.Ticket.{refused, parse, ticketOf, refusalOf, lineRefusalOf, lineOf, countsOf};
+ghost use Rattle.ticket.specs.Part.{place};
+ghost use Rattle.ticket.specs.Ticket.{refused, parse, ticketOf, refusalOf, lineRefusalOf, lineStart, lineOf, linePlace, countsOf};
 
 mod lines;
 mod tally;
@@ -77,15 +78,23 @@ pub fn line_refusal(t: &[u8], p: Position) -> u8
     }
 }
 
+// The byte of a ticket at which the line of the frame at a position begins.
+pub fn line_start(p: Position) -> usize
+    ensures { λ r. ⌜ r ≡ lineStart (p .0) ⌝ }
+{
+    15 + 3 * (p.0 as usize)
+}
+
 // The line of the frame at a position: the two digits of its card, a part of the caller's ticket. Empty with a refusal.
 pub fn line(t: &[u8], p: Position) -> &[u8]
-    ensures { λ r. ⌜ now r ≡ lineOf (now (t .entry)) (p .0) ⌝ }
+    ensures line { λ r. ⌜ now r ≡ lineOf (now (t .entry)) (p .0) ⌝ }
+    ensures stands { λ r. ⌜ r .ptr ≡ place (t .entry .ptr) (linePlace (now (t .entry)) (p .0)) ⌝ }
 {
     let number = line_refusal(t, p);
     if number != 0 {
         return &t[0..0];
     }
-    let at = 15 + 3 * (p.0 as usize);
+    let at = line_start(p);
     &t[at..at + 2]
 }
 

@@ -2,13 +2,14 @@
 -- Assumes nothing.
 use mathlib.Core.Path.{_≡_, _∙_}
 use native.Mathlib.Omega.{arith}
-use Rattle.ticket.proofs.Answers.{no-line, line-fits, the-line}
+use Rattle.ticket.proofs.Answers.{stands, no-line, no-place, line-fits, the-line, its-place}
 use borrow.Author.Needs.{needs}
 use Rattle.ticket.proofs.line.Statement.{statement}
 use Rattle.ticket.proofs.line.Tie as tie
 use Rattle.ticket.proofs.line.Reads as reads
 use Rattle.ticket.proofs.line.Lts as lts
 use Rattle.ticket.proofs.line_refusal.Reads as line-refusal-reads
+use Rattle.ticket.proofs.line_start.Reads as line-start-reads
 
 line-refusal-requires : tie.Need-line-refusal-requires
 line-refusal-requires c κs = search needs
@@ -23,16 +24,12 @@ part-result-end : tie.Need-part-result-end
 part-result-end c = search needs
 
 returns : tie.Need-returns
-returns c = no-line _ _ (c .before .before .line-refusal .ensures) (λ e. omega arith)
+returns c =
+    let r = c .before .before .line-refusal in
+    (no-line _ _ (r .ensures) (λ e. omega arith), stands _ (no-place _ _ (r .ensures) (λ e. omega arith)))
 
-cast-at : tie.Need-cast-at
-cast-at c = search needs
-
-mul-at : tie.Need-mul-at
-mul-at c = search needs
-
-add-at : tie.Need-add-at
-add-at c = search needs
+line-start-requires : tie.Need-line-start-requires
+line-start-requires c κs = search needs
 
 add-result : tie.Need-add-result
 add-result c = search needs
@@ -47,13 +44,14 @@ part-result-end-2 : tie.Need-part-result-end-2
 part-result-end-2 c =
     let r = c .before .before .line-refusal in
     let z : 0 ≡ r .result = omega arith in
-    omega (arith, line-fits _ _ (z ∙ r .ensures))
+    omega (arith, c .line-start .ensures, line-fits _ _ (z ∙ r .ensures))
 
 returns-2 : tie.Need-returns-2
 returns-2 c =
     let r = c .before .before .before .line-refusal in
     let z : 0 ≡ r .result = omega arith in
-    the-line _ _ (z ∙ r .ensures)
+    let a = c .before .line-start .ensures in
+    (the-line _ _ (z ∙ r .ensures) a, stands _ (a ∙ its-place _ _ (z ∙ r .ensures)))
 
 pub line-spec : {M : Type 1} → statement M
 line-spec =
@@ -64,9 +62,7 @@ line-spec =
     part-result-start
     part-result-end
     returns
-    cast-at
-    mul-at
-    add-at
+    line-start-requires
     add-result
     sub-result-2
     part-result-start-2
