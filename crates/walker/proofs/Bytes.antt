@@ -1,0 +1,73 @@
+-- What the calls on bytes and a position answer.
+-- Assumes nothing.
+use Prim.Native.Nat.{ℕ, _+_, _-_, _≤_, _<_}
+use mathlib.Core.Bool.{true, false}
+use mathlib.Core.Path.{_≡_, _∙_}
+use mathlib.Core.List.{List, []}
+use lib.Dec.{ltb, leb}
+use lib.ListN.{length, take, drop}
+use borrow.Author.Tests.{ne-eqb, lt-ltb, le-ltb, le-leb, ltb-true, leb-true}
+use Rattle.schedule.proofs.Bits.{and-left, and-right}
+use Rattle.header.specs.Limits.{maxFrames}
+use Rattle.ticket.specs.Ticket.{parse, refusalOf, lineBytes, lineDigits, lineStart}
+use Rattle.ticket.proofs.Answers.{cut-line}
+use Rattle.walker.specs.Walk.{opened, hasLine, lineAt, placeAt, nextAt}
+
+module _ (t : List ℕ) where
+  pub none-left : {k : ℕ} → k ≡ refusalOf (parse t) → (k ≡ 0 → ⊥) → [] ≡ opened t
+  unfolding opened
+  none-left e n = rw (← e, ne-eqb _ _ n)
+
+  pub whole : 0 ≡ refusalOf (parse t) → t ≡ opened t
+  unfolding opened
+  whole e = rw (← e)
+
+module _ (bytes : List ℕ) (p : ℕ) where
+  pub past-limit : maxFrames ≤ p → false ≡ hasLine bytes p
+  unfolding hasLine
+  past-limit l = rw (le-ltb p maxFrames l)
+
+  pub in-limit : {at : ℕ} → p < maxFrames → at ≡ lineStart p → leb (at + lineBytes) (length bytes) ≡ hasLine bytes p
+  unfolding hasLine
+  in-limit l a = rw (lt-ltb p maxFrames l, a)
+
+  pub room-has : p < maxFrames → lineStart p + lineBytes ≤ length bytes → hasLine bytes p ≡ true
+  unfolding hasLine
+  room-has l r = rw (lt-ltb p maxFrames l, le-leb (lineStart p + lineBytes) (length bytes) r)
+
+  module _ (e : hasLine bytes p ≡ true) where
+    below : p < maxFrames
+    unfolding hasLine
+    below = ltb-true _ _ (and-left _ _ e)
+
+    inside : lineStart p + lineBytes ≤ length bytes
+    unfolding hasLine
+    inside = leb-true _ _ (and-right (ltb p maxFrames) _ e)
+
+    pub has-room : (p < maxFrames) × (lineStart p + lineBytes ≤ length bytes)
+    has-room = (below, inside)
+
+    pub the-line : {at : ℕ} → at ≡ lineStart p → take (at + lineDigits - at) (drop at bytes) ≡ lineAt bytes p
+    unfolding lineAt
+    the-line a = cut-line bytes p a ∙ rw e
+
+    pub its-place : lineStart p ≡ placeAt bytes p
+    unfolding placeAt
+    its-place = rw e
+
+    pub moves-on : p + 1 ≡ nextAt bytes p
+    unfolding nextAt
+    moves-on = rw e
+
+  module _ (e : hasLine bytes p ≡ false) where
+    pub no-line : [] ≡ lineAt bytes p
+    unfolding lineAt
+    no-line = rw e
+
+    pub no-place : 0 ≡ placeAt bytes p
+    unfolding placeAt
+    no-place = rw e
+
+    pub stays : p ≡ nextAt bytes p
+    unfolding nextAt
+    stays = rw e

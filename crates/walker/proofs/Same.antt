@@ -1,0 +1,68 @@
+-- The line of the bytes that a walker goes through is the reader's line: for every text and every position.
+-- Assumes nothing.
+use Prim.Native.Nat.{ℕ}
+use mathlib.Core.Bool.{Bool, true, false, cond}
+use mathlib.Core.Path.{_≡_, refl, sym, _∙_}
+use mathlib.Core.List.{List}
+use native.Mathlib.Omega.{arith}
+use lib.Dec.{eqb, ltb}
+use lib.ListN.{length}
+use borrow.Author.Tests.{ne-eqb, lt-ltb, ltb-true}
+use Rattle.schedule.proofs.Bits.{by-cases}
+use Rattle.header.specs.declared.Header.{Header}
+use Rattle.ticket.specs.Ticket.{accepted, refused, parse, lineStart, lineIn, lineOf, linePlace}
+use Rattle.ticket.proofs.Main.{accepted-length, accepted-few}
+use Rattle.ticket.proofs.Reader.{refusal-number}
+use Rattle.walker.specs.Walk.{opened, hasLine, end, lineAt, placeAt}
+use Rattle.walker.proofs.Bytes.{none-left, whole, has-room, room-has, no-line, no-place}
+
+-- a refusal that comes where a test fails is none where it holds
+tested : {A : Type 0} (b : Bool) (x y : A) → cond b x y ≡ cond (eqb (cond b 0 16) 0) x y
+tested true x y = refl
+tested false x y = refl
+
+module _ (t : List ℕ) (p : ℕ) where
+  module _ (h : Header) (cards : List ℕ) (e : parse t ≡ accepted h cards) where
+    has : hasLine t p ≡ ltb p (length cards)
+    has =
+        let n = accepted-length t h cards e in
+        let f = accepted-few t h cards e in
+        by-cases (ltb p (length cards))
+        (λ y. let l = ltb-true p (length cards) y in room-has t p (omega (arith, l, f)) (omega (arith, l, n)) ∙ sym y)
+        (λ z. by-cases (hasLine t p) (λ y. let r = has-room t p y in y ∙ sym (lt-ltb p (length cards) (omega (arith, r .1, n)))) (λ m. m ∙ sym z))
+
+    all : opened t ≡ t
+    all = sym (whole t (rw e))
+
+    line-read : lineAt (opened t) p ≡ lineOf t p
+    unfolding lineAt lineOf
+    line-read = rw (all, has, e) (tested (ltb p (length cards)) (lineIn t p) end)
+
+    place-read : placeAt (opened t) p ≡ linePlace t p
+    unfolding placeAt linePlace
+    place-read = rw (all, has, e) (tested (ltb p (length cards)) (lineStart p) 0)
+
+  module _ (k : ℕ) (e : parse t ≡ refused k) where
+    some : k ≡ 0 → ⊥
+    some z = omega (arith, z, refusal-number t k e .0)
+
+    none : opened t ≡ end
+    none = sym (none-left t {k = k} (rw e) some)
+
+    nothing : hasLine end p ≡ false
+    unfolding hasLine
+    nothing = by-cases (hasLine end p) (λ y. absurd (omega (arith, has-room end p y .1))) (λ m. m)
+
+    line-refused : lineAt (opened t) p ≡ lineOf t p
+    unfolding lineOf
+    line-refused = rw (none, e, ne-eqb k 0 some) (sym (no-line end p nothing))
+
+    place-refused : placeAt (opened t) p ≡ linePlace t p
+    unfolding linePlace
+    place-refused = rw (none, e, ne-eqb k 0 some) (sym (no-place end p nothing))
+
+  pub same-line : lineAt (opened t) p ≡ lineOf t p
+  same-line = (elim (parse t) as (λ a. parse t ≡ a → lineAt (opened t) p ≡ lineOf t p) [ accepted h cards ↦ line-read h cards | refused k ↦ line-refused k ]) refl
+
+  pub same-place : placeAt (opened t) p ≡ linePlace t p
+  same-place = (elim (parse t) as (λ a. parse t ≡ a → placeAt (opened t) p ≡ linePlace t p) [ accepted h cards ↦ place-read h cards | refused k ↦ place-refused k ]) refl

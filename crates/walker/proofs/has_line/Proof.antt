@@ -1,0 +1,25 @@
+-- `walker::has_line` meets its contract.
+-- Assumes nothing.
+use native.Mathlib.Omega.{arith}
+use Rattle.walker.proofs.Bytes.{past-limit, in-limit}
+use borrow.Author.Needs.{needs}
+use Rattle.walker.proofs.has_line.Statement.{statement}
+use Rattle.walker.proofs.has_line.Tie as tie
+use Rattle.walker.proofs.has_line.Reads as reads
+use Rattle.walker.proofs.has_line.Lts as lts
+use Rattle.ticket.proofs.line_start.Reads as line-start-reads
+
+returns : tie.Need-returns
+returns c = past-limit _ _ (omega arith)
+
+line-start-requires : tie.Need-line-start-requires
+line-start-requires c κs = search needs
+
+add-result : tie.Need-add-result
+add-result c = search needs
+
+returns-2 : tie.Need-returns-2
+returns-2 c = in-limit _ _ (omega arith) (c .line-start .ensures)
+
+pub has-line-spec : {M : Type 1} → statement M
+has-line-spec = tie.close (tie.spec returns line-start-requires add-result returns-2)
