@@ -76,13 +76,18 @@ fn plan(t: &[u8], buffer: &mut [u16]) {
     checks::run(replay::run_plan(t, buffer));
 }
 
+// A ticket of 4,096 frames with this header and layout.
+pub(crate) fn put_ticket(text: &mut [u8], header: &[u8], layout: u8) {
+    put_header(text, header);
+    put_lines(text, layout, 4096);
+}
+
 pub(crate) fn planned(header: &[u8], layout: &[u8]) {
     let mut text = [0u8; 12303];
     let mut buffer = [0u16; 4096];
     output::left(layout, 12);
     output::left(header, 17);
-    put_header(&mut text, header);
-    put_lines(&mut text, tables::byte_at(layout, 0), 4096);
+    put_ticket(&mut text, header, tables::byte_at(layout, 0));
     plan(&text, &mut buffer);
 }
 

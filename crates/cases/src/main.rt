@@ -9,6 +9,7 @@ mod refusals;
 mod savers;
 mod tables;
 mod tickets;
+mod walks;
 
 fn main() {
     output::text(
@@ -16,6 +17,7 @@ fn main() {
         In a ticket / stands for the end byte (0A hex), and (nothing) is a ticket without bytes. Other numbers are decimal.\n",
     );
     tickets::all();
+    walks::all();
     refusals::all();
     plans::all();
     printed::all();

@@ -8,11 +8,13 @@ use crate::plans;
 use crate::printed;
 use crate::refusals;
 use crate::tickets;
+use crate::walks;
 
 // How the entries of a table are shown.
 pub(crate) enum Show {
     Accepted,
     Lines,
+    Walked,
     Refused,
     TooShort,
     Planned,
@@ -27,6 +29,7 @@ fn show_ticket(how: Show, t: &[u8], more: &[u8]) {
     match how {
         Show::Accepted => tickets::accepted(t),
         Show::Lines => tickets::lines(t),
+        Show::Walked => walks::walked(t),
         Show::Refused => refusals::refused(t),
         Show::TooShort => refusals::too_short(t),
         Show::Planned => plans::planned(t),
