@@ -15,10 +15,9 @@ use Rattle.text.proofs.Hex.{length-hex}
 use Rattle.ticket.specs.Ticket.{accepted, refused, parse, lineDigits, lineOf, linePlace}
 use Rattle.ticket.proofs.Main.{line-card}
 use Rattle.ticket.proofs.Answers.{no-line}
-use Rattle.ticket.proofs.Reader.{refusal-number}
 use Rattle.walker.specs.Walk.{end, gives, givesFrom, movedTo, after, walk, WalksOn, readerLines}
 use Rattle.walker.specs.declared.Walker.{Walker}
-use Rattle.walker.proofs.Same.{same-line, same-place}
+use Rattle.walker.proofs.Same.{a-number, same-line, same-place}
 use Rattle.walker.proofs.Steps.{gives-at, place-at}
 
 -- where the reader gives no line from position m on, its lines are the first m and then only ends
@@ -66,4 +65,4 @@ module _ (t : List ℕ) (w : Walker) (s : WalksOn t 0 w) where
   refused-walk k e n =
       walk-gives n
       ∙ ap (readerLines t) (sym (zero-add n))
-      ∙ lines-end t 0 (λ p l. no-line t p {k = k} (rw e) (λ z. omega (arith, z, refusal-number t k e .0))) n
+      ∙ lines-end t 0 (λ p l. no-line t p {k = k} (rw e) (a-number t k e)) n

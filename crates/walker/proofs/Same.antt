@@ -16,6 +16,10 @@ use Rattle.ticket.proofs.Reader.{refusal-number}
 use Rattle.walker.specs.Walk.{opened, hasLine, end, lineAt, placeAt}
 use Rattle.walker.proofs.Bytes.{none-left, whole, has-room, room-has, no-line, no-place}
 
+-- a refusal has a number
+pub a-number : (t : List ℕ) (k : ℕ) → parse t ≡ refused k → k ≡ 0 → ⊥
+a-number t k e z = omega (arith, z, refusal-number t k e .0)
+
 -- a refusal that comes where a test fails is none where it holds
 tested : {A : Type 0} (b : Bool) (x y : A) → cond b x y ≡ cond (eqb (cond b 0 16) 0) x y
 tested true x y = refl
@@ -43,23 +47,19 @@ module _ (t : List ℕ) (p : ℕ) where
     place-read = rw (all, has, e) (tested (ltb p (length cards)) (lineStart p) 0)
 
   module _ (k : ℕ) (e : parse t ≡ refused k) where
-    some : k ≡ 0 → ⊥
-    some z = omega (arith, z, refusal-number t k e .0)
-
     none : opened t ≡ end
-    none = sym (none-left t {k = k} (rw e) some)
+    none = sym (none-left t {k = k} (rw e) (a-number t k e))
 
     nothing : hasLine end p ≡ false
-    unfolding hasLine
     nothing = by-cases (hasLine end p) (λ y. absurd (omega (arith, has-room end p y .1))) (λ m. m)
 
     line-refused : lineAt (opened t) p ≡ lineOf t p
     unfolding lineOf
-    line-refused = rw (none, e, ne-eqb k 0 some) (sym (no-line end p nothing))
+    line-refused = rw (none, e, ne-eqb k 0 (a-number t k e)) (sym (no-line end p nothing))
 
     place-refused : placeAt (opened t) p ≡ linePlace t p
     unfolding linePlace
-    place-refused = rw (none, e, ne-eqb k 0 some) (sym (no-place end p nothing))
+    place-refused = rw (none, e, ne-eqb k 0 (a-number t k e)) (sym (no-place end p nothing))
 
   pub same-line : lineAt (opened t) p ≡ lineOf t p
   same-line = (elim (parse t) as (λ a. parse t ≡ a → lineAt (opened t) p ≡ lineOf t p) [ accepted h cards ↦ line-read h cards | refused k ↦ line-refused k ]) refl
