@@ -36,7 +36,7 @@ module _ (h : Header) (cards cycles : List ℕ) (l : length cycles ≡ length ca
   unfolding checkOf
   answer-save q = rw (q, eq-eqb (length cycles) (length cards) l)
 
-pub exact : (t cycles : List ℕ) (r : Verdict) → r ≡ checkOf (parse t) cycles → Exact t cycles r
+pub exact : (t cycles : List ℕ) (r : Verdict) → r ≡ checkOf (parse t) cycles → Exact t cycles (isValid r)
 exact t cycles r e =
     record {
       read-plan = λ h cards a q l.
@@ -52,7 +52,7 @@ exact t cycles r e =
     }
 
 -- the two clauses of `check`
-pub contract : (t cycles : List ℕ) (r : Verdict) → r ≡ checkOf (parse t) cycles → (r ≡ checkOf (parse t) cycles) × Exact t cycles r
+pub contract : (t cycles : List ℕ) (r : Verdict) → r ≡ checkOf (parse t) cycles → (r ≡ checkOf (parse t) cycles) × Exact t cycles (isValid r)
 contract t cycles r e = (e, exact t cycles r e)
 
 module _ (t : List ℕ) (h : Header) (cards : List ℕ) (e : parse t ≡ accepted h cards) where

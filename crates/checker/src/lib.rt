@@ -3,7 +3,7 @@ ghost use mathlib.Core.Path.{_≡_};
 ghost use lib.ListN.{take};
 ghost use Rattle.ticket.specs.Ticket.{accepted, parse};
 ghost use Rattle.ticket.specs.Grounds.{Fits};
-ghost use Rattle.checker.specs.Check.{checkOf};
+ghost use Rattle.checker.specs.Check.{isValid, checkOf};
 ghost use Rattle.checker.specs.Exact.{Exact};
 
 mod backlog;
@@ -45,7 +45,7 @@ fn check_list(h: Header, card: &[u8], plan: &[u16]) -> Verdict
 // Checks a plan for a ticket. `exact` is demand 2's last sentence: a plan is called valid exactly when it meets the paper's conditions.
 pub fn check(ticket: &[u8], plan: &[u16]) -> Verdict
     ensures answer { λ r. ⌜ r ≡ checkOf (parse (now (ticket .entry))) (now (plan .entry)) ⌝ }
-    ensures exact { λ r. ⌜ Exact (now (ticket .entry)) (now (plan .entry)) r ⌝ }
+    ensures exact { λ r. ⌜ Exact (now (ticket .entry)) (now (plan .entry)) (isValid r) ⌝ }
 {
     let read = ticket::parse(ticket);
     let answer = read.answer;

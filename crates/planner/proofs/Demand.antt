@@ -48,7 +48,7 @@ module _ (h : Header) (cards before after : List ℕ) (r : Answer) (a : Answered
   so-of-call P e p = (answers-T .0, rw (answers-T .1, holds-plan e) p)
 
 module _ (t before after : List ℕ) (r : Answer) (a : Answered (parse t) before after r) where
-  pub demand-3 : Demand3 t r after
+  pub demand-3 : Demand3 t (refusalIn r) (lengthIn r) after
   demand-3 =
       record {
         read-plan = λ h cards e mode room.
@@ -66,5 +66,5 @@ module _ (t before after : List ℕ) (r : Answer) (a : Answered (parse t) before
       }
 
   -- the whole contract of `plan`
-  pub contract : (r ≡ answerTo (parse t) (length before)) × ((after ≡ bufferAfter (parse t) before) × Demand3 t r after)
+  pub contract : (r ≡ answerTo (parse t) (length before)) × ((after ≡ bufferAfter (parse t) before) × Demand3 t (refusalIn r) (lengthIn r) after)
   contract = (a .answer, (a .buffer, demand-3))

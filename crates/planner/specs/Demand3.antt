@@ -1,4 +1,5 @@
--- Demand 3 about one call of `plan`: the ticket's text, the answer r, and the buffer after the call.
+-- Demand 3 about one call of `plan`: the ticket's text, the numbers of the answer (a refusal's, 0 for none, and T), and the buffer after the
+-- call.
 -- `ReadDemand` and `SaveDemand` (crates/schedule/specs/Demand.antt) are the two sentences of the demand.
 -- Assumes nothing.
 use Prim.Native.Nat.{ℕ, _≤_}
@@ -9,18 +10,16 @@ use Rattle.schedule.specs.Demand.{SaveDemand, ReadDemand}
 use Rattle.header.specs.Limits.{read, save}
 use Rattle.header.specs.declared.Header.{Header}
 use Rattle.ticket.specs.Ticket.{accepted, parse}
-use Rattle.planner.specs.Plan.{refusalIn, lengthIn}
-use Rattle.planner.specs.declared.Answer.{Answer}
 
-pub record Demand3 (text : List ℕ) (r : Answer) (buffer : List ℕ) : Type 0 where
+pub record Demand3 (text : List ℕ) (refusal T : ℕ) (buffer : List ℕ) : Type 0 where
   -- For every accepted read ticket and a buffer with room for it: the plan that now stands in the buffer, driven on the dock, breaks no
   -- rule, hands over everything in exactly the T answered and never holds more than the pool; and EVERY list of reads, drops and ends
   -- that hands everything over needs T cycles or more.
   pub read-plan :
       (h : Header) (cards : List ℕ) → parse text ≡ accepted h cards → h .mode ≡ read → length cards ≤ length buffer
-      → (refusalIn r ≡ 0) × ReadDemand (h .pool) cards (take (length cards) buffer) (lengthIn r)
+      → (refusal ≡ 0) × ReadDemand (h .pool) cards (take (length cards) buffer) T
   -- For every accepted save ticket and a buffer with room for it: the plan that now stands in the buffer is a correct schedule of the T
   -- cycles answered, and every correct schedule is at least as long.
   pub save-plan :
       (h : Header) (cards : List ℕ) → parse text ≡ accepted h cards → h .mode ≡ save → length cards ≤ length buffer
-      → (refusalIn r ≡ 0) × SaveDemand (h .pool) cards (take (length cards) buffer) (lengthIn r)
+      → (refusal ≡ 0) × SaveDemand (h .pool) cards (take (length cards) buffer) T
