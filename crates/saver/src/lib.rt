@@ -11,6 +11,7 @@ use schedule::Cycle;
 use schedule::Position;
 
 // The frames in the pool stand at the first places of `card` and `position`, oldest first; the places after them are 0.
+#[repr(C)]
 pub struct Saver {
     pub cards: u8,
     pub pool: u16,
@@ -27,6 +28,7 @@ pub struct Saver {
 
 // What a call gives back: the number of a refusal, 0 for none; the cycle that it made, 0 for none; for each card the position written in
 // that cycle, 65,535 for none; and the new record.
+#[repr(C)]
 pub struct Answer {
     pub refusal: u8,
     pub cycle: Cycle,

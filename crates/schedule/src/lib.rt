@@ -5,9 +5,11 @@ ghost use Prim.Native.Nat.{max};
 ghost use Rattle.schedule.specs.Schedule.{cyclesIn};
 
 // A cycle, counted from 1. In a plan, 0 stands for a frame that no cycle writes.
+#[repr(C)]
 pub struct Cycle(pub u16);
 
 // A frame's position in the list, counted from 0.
+#[repr(C)]
 pub struct Position(pub u16);
 
 // The larger of two numbers.
