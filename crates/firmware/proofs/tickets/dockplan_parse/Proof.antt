@@ -1,0 +1,20 @@
+-- `firmware::tickets::dockplan_parse` meets its contract.
+-- Assumes nothing.
+use mathlib.Core.Path.{ap, _∙_}
+use Rattle.ticket.specs.declared.Ticket.{Ticket}
+use Rattle.firmware.specs.Answers.{ticketAnswer}
+use borrow.Author.Needs.{needs}
+use Rattle.firmware.proofs.tickets.dockplan_parse.Statement.{statement}
+use Rattle.firmware.proofs.tickets.dockplan_parse.Tie as tie
+
+parse-requires : tie.Need-parse-requires
+parse-requires c κs = search needs
+
+ticket-answer-requires : tie.Need-ticket-answer-requires
+ticket-answer-requires c κs = search needs
+
+returns : tie.Need-returns
+returns c = c .ticket-answer .ensures ∙ ap (λ (x : Ticket). ticketAnswer (x .answer)) (c .before .parse .ensures)
+
+pub dockplan-parse-spec : {M : Type 1} → statement M
+dockplan-parse-spec = tie.close (tie.spec parse-requires ticket-answer-requires returns)

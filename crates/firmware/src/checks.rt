@@ -1,0 +1,144 @@
+// A plan that anyone made: its verdict, and its run on the dock.
+ghost use mathlib.Core.Path.{_≡_};
+ghost use lib.Dec.{eqb};
+ghost use Rattle.ticket.specs.Ticket.{parse};
+ghost use Rattle.checker.specs.Check.{checkOf};
+ghost use Rattle.checker.specs.Exact.{Exact};
+ghost use Rattle.replay.specs.Run.{ranOf};
+ghost use Rattle.firmware.specs.Answers.{valid, checkAnswer, runNumbers, runAnswer, completeIn, neededIn};
+use schedule::Cycle;
+use schedule::Position;
+
+// A verdict by its number; 0 beside a refusal, so that no cleared answer says valid.
+const VALID: u8 = 1;
+
+const NO_CYCLE: u8 = 2;
+
+const SHARED_CARD: u8 = 3;
+
+const OVERFULL: u8 = 4;
+
+#[repr(C)]
+pub struct CheckAnswer {
+    pub refusal: u8,
+    pub verdict: u8,
+    pub position: Position,
+    pub cycles: Cycle,
+    pub peak: u16,
+}
+
+// A plan's run: whether it broke off, whether all frames were handed over, how many were, the cycles that ended, the cycles needed if
+// complete, and the peak.
+#[repr(C)]
+pub struct RunAnswer {
+    pub refusal: u8,
+    pub broken: bool,
+    pub complete: bool,
+    pub delivered: u16,
+    pub ended: Cycle,
+    pub needed: Cycle,
+    pub peak: u16,
+}
+
+fn fault(verdict: u8, p: Position) -> CheckAnswer
+    ensures { λ r. ⌜ r ≡ record { refusal = 0; verdict = verdict; position = p; cycles = record { 0 = 0 }; peak = 0 } ⌝ }
+{
+    CheckAnswer {
+        refusal: 0,
+        verdict: verdict,
+        position: p,
+        cycles: Cycle(0),
+        peak: 0,
+    }
+}
+
+fn check_answer(verdict: checker::Verdict) -> CheckAnswer
+    ensures { λ r. ⌜ r ≡ checkAnswer verdict ⌝ }
+{
+    match verdict {
+        checker::Verdict::Valid(cycles, peak) => CheckAnswer {
+            refusal: 0,
+            verdict: VALID,
+            position: Position(0),
+            cycles: cycles,
+            peak: peak,
+        },
+        checker::Verdict::NoCycle(p) => fault(NO_CYCLE, p),
+        checker::Verdict::SharedCard(p) => fault(SHARED_CARD, p),
+        checker::Verdict::Overfull(p) => fault(OVERFULL, p),
+        checker::Verdict::Refused(number) => CheckAnswer {
+            refusal: number,
+            verdict: 0,
+            position: Position(0),
+            cycles: Cycle(0),
+            peak: 0,
+        },
+    }
+}
+
+// `exact` is demand 2's last sentence: a plan is called valid exactly when it meets the paper's conditions.
+#[no_mangle]
+pub extern "C" fn dockplan_check(ticket: &[u8], plan: &[u16]) -> CheckAnswer
+    ensures answer { λ r. ⌜ r ≡ checkAnswer (checkOf (parse (now (ticket .entry))) (now (plan .entry))) ⌝ }
+    ensures exact { λ r. ⌜ Exact (now (ticket .entry)) (now (plan .entry)) (eqb (r .verdict) valid) ⌝ }
+{
+    check_answer(checker::check(ticket, plan))
+}
+
+fn is_complete(outcome: replay::Outcome) -> bool
+    ensures { λ r. ⌜ r ≡ completeIn outcome ⌝ }
+{
+    match outcome {
+        replay::Outcome::Complete(_) => true,
+        replay::Outcome::Unfinished => false,
+    }
+}
+
+fn cycles_needed(outcome: replay::Outcome) -> Cycle
+    ensures { λ r. ⌜ r ≡ neededIn outcome ⌝ }
+{
+    match outcome {
+        replay::Outcome::Complete(needed) => needed,
+        replay::Outcome::Unfinished => Cycle(0),
+    }
+}
+
+fn ran(run: replay::Run) -> RunAnswer
+    ensures { λ r. ⌜ r ≡ runNumbers run ⌝ }
+{
+    let outcome = run.outcome;
+    let ended = run.ended;
+    RunAnswer {
+        refusal: 0,
+        broken: run.broken,
+        complete: is_complete(outcome),
+        delivered: run.delivered,
+        ended: ended,
+        needed: cycles_needed(outcome),
+        peak: run.peak,
+    }
+}
+
+fn run_answer(answer: replay::Answer) -> RunAnswer
+    ensures { λ r. ⌜ r ≡ runAnswer answer ⌝ }
+{
+    match answer {
+        replay::Answer::Ran(run) => ran(run),
+        replay::Answer::Refused(number) => RunAnswer {
+            refusal: number,
+            broken: false,
+            complete: false,
+            delivered: 0,
+            ended: Cycle(0),
+            needed: Cycle(0),
+            peak: 0,
+        },
+    }
+}
+
+#[no_mangle]
+pub extern "C" fn dockplan_run_plan(ticket: &[u8], plan: &[u16]) -> RunAnswer
+    ensures { λ r. ⌜ r ≡ runAnswer (ranOf (parse (now (ticket .entry))) (now (plan .entry))) ⌝ }
+{
+    run_answer(replay::run_plan(ticket, plan))
+}
