@@ -15,16 +15,16 @@ use Rattle.text.specs.Text.{digit, digits, number, Line}
 use Rattle.text.proofs.Digits.{last-digit, fewer-digits, line-digits}
 use Rattle.text.proofs.Lines.{line-true}
 
--- the digit of a digit's value is that digit
-below : (b : ℕ) → b < 48 → digit b ≡ 16
+-- the values of the bytes, range by range
+below : (b : ℕ) → b < 48 → digit b ≡ 255
 unfolding digit
 below b h = rw (lt-leb 48 b h, lt-leb 65 b (omega arith))
 
-between : (b : ℕ) → 57 < b → b < 65 → digit b ≡ 16
+between : (b : ℕ) → 57 < b → b < 65 → digit b ≡ 255
 unfolding digit
 between b h l = rw (le-leb 48 b (omega arith), lt-leb b 57 h, lt-leb 65 b l)
 
-above : (b : ℕ) → 70 < b → digit b ≡ 16
+above : (b : ℕ) → 70 < b → digit b ≡ 255
 unfolding digit
 above b h = rw (le-leb 48 b (omega arith), lt-leb b 57 (omega arith), le-leb 65 b (omega arith), lt-leb b 70 h)
 

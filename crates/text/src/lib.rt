@@ -6,11 +6,11 @@ ghost use Rattle.text.specs.Text.{digit, digitValues};
 // The byte that ends a line.
 pub const END: u8 = 10;
 
-// For each byte its value as a digit, 16 where it is no digit. A caller builds the table once and lends it for each digit.
+// For each byte its value as a digit, 255 where it is no digit. A caller builds the table once and lends it for each digit.
 pub fn digit_values() -> [u8; 256]
     ensures { λ r. ⌜ r ≡ digitValues ⌝ }
 {
-    let mut value = [16u8; 256];
+    let mut value = [255u8; 256];
     value[48] = 0;
     value[49] = 1;
     value[50] = 2;

@@ -1,19 +1,22 @@
 -- Laws of the frame lines' refusals: which line is refused first, and by what.
 -- Assumes nothing.
-use Prim.Native.Nat.{ℕ, zero, suc, _+_, _*_, _≤_, _<_}
-use mathlib.Core.Path.{_≡_, refl, _∙_}
+use Prim.Native.Nat.{ℕ, zero, suc, _+_, _*_, _/_, _≤_, _<_, min}
+use mathlib.Core.Path.{_≡_, refl, sym, _∙_}
 use mathlib.Core.Bool.{true, false, cond}
-use mathlib.Core.List.{List}
+use mathlib.Core.List.{List, _++_}
 use native.Mathlib.Omega.{arith}
 use native.Mathlib.Numerals.{add-one}
 use native.Mathlib.Nat.{add-zero}
 use native.Mathlib.Decide.{decLt}
-use lib.ListN.{length, getD}
-use borrow.Author.Tests.{lt-ltb, le-ltb, eq-eqb, ne-eqb}
+use lib.ListN.{length, drop, getD}
+use lib.Dec.{ltb}
+use borrow.Author.Tests.{lt-ltb, le-ltb, ltb-true, eq-eqb, ne-eqb}
+use Rattle.schedule.specs.Count.{tabulate}
 use Rattle.schedule.proofs.Bits.{by-cases}
 use Rattle.text.specs.Text.{endByte, digit, digits, number, isLine}
-use Rattle.text.proofs.Digits.{number-lt, line-digits, is-line, not-digits, no-digits}
+use Rattle.text.proofs.Digits.{digit-below, line-long, line-end, is-line, not-digits, no-digits}
 use Rattle.ticket.specs.Ticket.{lineBytes, lineDigits, cardAt, lineFault, linesFault, partFault}
+use Rattle.ticket.specs.Lines.{ReadTo}
 
 -- a line of 2 digits, byte by byte
 module _ (s : List ℕ) (at : ℕ) where
@@ -31,16 +34,17 @@ module _ (s : List ℕ) (at : ℕ) where
   pub low-not : 16 ≤ digit (getD s (at + 1) 0) → isLine s at lineDigits ≡ false
   low-not h = no-digits s at lineDigits (not-digits s at lineDigits 1 (omega arith) h)
 
-  -- the value of a line, or 256
-  pub no-line : isLine s at lineDigits ≡ false → 256 ≡ cond (isLine s at lineDigits) (number s at lineDigits) 256
-  no-line e = rw e
+  -- the refusal of a line that does not pass
+  pub no-line : isLine s at lineDigits ≡ false → _≡_ {A = ℕ} 7 (cond (isLine s at lineDigits) 8 7)
+  no-line e = rw e refl
 
-  pub line-number :
-      {high low : ℕ} → at + lineDigits < length s → high ≡ digit (getD s at 0) → low ≡ digit (getD s (at + 1) 0) → high < 16 → low < 16
-      → getD s (at + lineDigits) 0 ≡ endByte → high * 16 + low ≡ cond (isLine s at lineDigits) (number s at lineDigits) 256
-  line-number l eh el h k e =
-      let d : digits s at lineDigits ≡ true = two-digits (rw (← eh) h) (rw (← el) k) in
-      rw (is-line s at lineDigits l d, eq-eqb _ _ e, two-digit-number, ← eh, ← el)
+  pub a-line : isLine s at lineDigits ≡ true → _≡_ {A = ℕ} 8 (cond (isLine s at lineDigits) 8 7)
+  a-line e = rw e refl
+
+  pub is-a-line :
+      at + lineDigits < length s → digit (getD s at 0) < 16 → digit (getD s (at + 1) 0) < 16 → getD s (at + lineDigits) 0 ≡ endByte
+      → isLine s at lineDigits ≡ true
+  is-a-line l h k e = rw (is-line s at lineDigits l (two-digits h k), eq-eqb _ _ e)
 
   pub no-end : at + lineDigits < length s → digit (getD s at 0) < 16 → digit (getD s (at + 1) 0) < 16
       → (getD s (at + lineDigits) 0 ≡ endByte → ⊥) → isLine s at lineDigits ≡ false
@@ -60,10 +64,21 @@ module _ (s : List ℕ) (cards : ℕ) where
     unfolding lineFault
     line-0 e h = rw (e, lt-ltb _ _ h)
 
-    -- a card has 2 digits
-    pub card-small : isLine s (lineBytes * i) lineDigits ≡ true → cardAt s i < 256
-    unfolding cardAt
-    card-small e = number-lt s (lineBytes * i) lineDigits (line-digits s (lineBytes * i) lineDigits e)
+    -- a line without a refusal is a line, with a card of the ticket
+    pub passing : lineFault s cards i ≡ 0 → (isLine s (lineBytes * i) lineDigits ≡ true) × (cardAt s i < cards)
+    unfolding lineFault
+    passing z =
+        by-cases (isLine s (lineBytes * i) lineDigits)
+        (λ e. (e, by-cases (ltb (cardAt s i) cards) (λ l. ltb-true _ _ l) (λ l. absurd (omega (arith, rw (e, l) at z)))))
+        (λ e. absurd (omega (arith, rw e at z)))
+
+    -- a line that does not pass is refused by 8 or by 7
+    pub fault-of : (lineFault s cards i ≡ 0 → ⊥) → lineFault s cards i ≡ cond (isLine s (lineBytes * i) lineDigits) 8 7
+    unfolding lineFault
+    fault-of n =
+        by-cases (isLine s (lineBytes * i) lineDigits)
+        (λ e. by-cases (ltb (cardAt s i) cards) (λ l. absurd (n (rw (e, l) refl))) (λ l. rw (e, l) refl))
+        (λ e. rw e refl)
 
   -- no refusal in the first n lines: the next one decides
   pub next-line : (n : ℕ) → linesFault s cards n ≡ 0 → linesFault s cards (suc n) ≡ lineFault s cards n
@@ -105,25 +120,47 @@ module _ (s : List ℕ) (cards : ℕ) where
   pub refuses : (n i e : ℕ) → i < n → linesFault s cards i ≡ 0 → lineFault s cards i ≡ e → (e ≡ 0 → ⊥) → partFault s cards n ≡ e
   refuses n i e l z q h = part-fault n e (first-fault n i e l z q h) h
 
--- what the value of a line, or 256, tells of line i
-module _ (s : List ℕ) (cards i at v : ℕ) (a : at ≡ lineBytes * i) (e : v ≡ cond (isLine s at lineDigits) (number s at lineDigits) 256) where
-  here : v ≡ cond (isLine s (lineBytes * i) lineDigits) (cardAt s i) 256
+-- line i, read as a pair of digits v
+module _ (s : List ℕ) (cards i at v : ℕ) (a : at ≡ lineBytes * i) (e : v ≡ digit (getD s at 0) * 16 + digit (getD s (at + 1) 0)) where
+  pub is-card : v ≡ cardAt s i
   unfolding cardAt
-  here = rw (← a) e
+  is-card = e ∙ rw a (sym (two-digit-number s (lineBytes * i)))
 
-  pub not-a-line : 256 ≤ v → lineFault s cards i ≡ 7
-  not-a-line h =
-      line-7 s cards i
-      (by-cases (isLine s (lineBytes * i) lineDigits)
-      (λ q. absurd (omega (arith, rw q at here, card-small s cards i q)))
-      (λ q. q))
+  -- a card that the ticket has not, or another end byte: the line does not pass
+  pub too-high : cards ≤ v → lineFault s cards i ≡ 0 → ⊥
+  too-high l z = omega (arith, is-card, passing s cards i z .1)
 
-  pub a-line : v < 256 → (isLine s (lineBytes * i) lineDigits ≡ true) × (v ≡ cardAt s i)
-  a-line h =
-      by-cases (isLine s (lineBytes * i) lineDigits) (λ q. (q, rw q at here)) (λ q. absurd (omega (arith, rw q at here)))
+  pub other-end : (getD s (at + lineDigits) 0 ≡ endByte → ⊥) → lineFault s cards i ≡ 0 → ⊥
+  other-end n z = n (rw a (line-end s (lineBytes * i) lineDigits (passing s cards i z .0)))
 
-  pub too-high : v < 256 → cards ≤ v → lineFault s cards i ≡ 8
-  too-high h l = line-8 s cards i (a-line h .0) (rw (a-line h .1) at l)
+  -- otherwise both digits are digits, since a byte that is none makes v at least 255
+  module _ (few : cards ≤ 255) (l : v < cards) (inside : at + lineDigits < length s) (ends : getD s (at + lineDigits) 0 ≡ endByte) where
+    pub passes-line : lineFault s cards i ≡ 0
+    passes-line =
+        let h : digit (getD s at 0) < 16 = digit-below (getD s at 0) (omega arith) in
+        let k : digit (getD s (at + 1) 0) < 16 = digit-below (getD s (at + 1) 0) (omega arith) in
+        line-0 s cards i (rw a at (is-a-line s at inside h k ends)) (rw is-card at l)
 
-  pub passes : v < 256 → v < cards → linesFault s cards i ≡ 0 → linesFault s cards (i + 1) ≡ 0
-  passes h l z = rw add-one (next-line s cards i z ∙ line-0 s cards i (a-line h .0) (rw (a-line h .1) at l))
+    pub passes : linesFault s cards i ≡ 0 → linesFault s cards (i + 1) ≡ 0
+    passes z = rw add-one (next-line s cards i z ∙ passes-line)
+
+-- the lines of a whole part: of n lines those that the text has whole were read, up to the first that does not pass
+module _ (s : List ℕ) (cards n lines : ℕ) (before after : List ℕ) (r : ℕ) (e : lines ≡ min (length s / lineBytes) n) (q : ReadTo s cards lines before r after) where
+  -- fewer than n pass: the next line does not, also where the text ends within it
+  not-next : r < n → lineFault s cards r ≡ 0 → ⊥
+  not-next l z =
+      elim (decLt r lines) [
+        | yes k ↦ q .stops k z
+        | no k ↦ omega (arith, q .up-to, line-long s (lineBytes * r) lineDigits (passing s cards r z .0))
+      ]
+
+  pub refused-next :
+      (k : ℕ) → r < n → k ≡ cond (isLine s (lineBytes * r) lineDigits) 8 7 → (k ≡ partFault s cards n) × (k ≡ 0 → ⊥)
+  refused-next k l f =
+      let g : lineFault s cards r ≡ k = fault-of s cards r (not-next l) ∙ sym f in
+      let h : k ≡ 0 → ⊥ = λ z. not-next l (g ∙ z) in
+      (sym (refuses s cards n r k l (q .pass) g h), h)
+
+  -- all n pass
+  pub all-pass : n ≤ r → (linesFault s cards n ≡ 0) × (after ≡ tabulate n (cardAt s) ++ drop n before)
+  all-pass l = let m : r ≡ n = omega (arith, q .up-to) in (rw m at (q .pass), rw m at (q .filled))

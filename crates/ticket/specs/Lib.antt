@@ -2,3 +2,4 @@ pub mod Ticket
 pub mod Grounds
 pub mod Print
 pub mod Part
+pub mod Lines

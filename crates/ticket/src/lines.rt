@@ -2,33 +2,72 @@
 ghost use mathlib.Core.Bool.{cond};
 ghost use mathlib.Core.Path.{_≡_};
 ghost use mathlib.Core.List.{_++_};
-ghost use Prim.Native.Nat.{_*_, _≤_};
+ghost use Prim.Native.Nat.{_+_, _*_, _≤_, min};
 ghost use lib.ListN.{length, drop};
 ghost use Rattle.schedule.specs.Count.{tabulate};
-ghost use Rattle.text.specs.Text.{digitValues, number, isLine};
+ghost use Rattle.text.specs.Text.{digit, digitValues, isLine};
 ghost use Rattle.header.specs.Limits.{maxFrames};
 ghost use Rattle.ticket.specs.Ticket.{lineBytes, lineDigits, cardAt, partFault};
+ghost use Rattle.ticket.specs.Lines.{ReadTo};
 
-// The value of the line of 2 digits at a place, 256 where there is none.
-pub(crate) fn line_value(value: &[u8; 256], s: &[u8], at: usize) -> u16
+// The value of two digits, 255 or more where one of them is none.
+fn pair(value: &[u8; 256], high: u8, low: u8) -> u16
+    requires { ⌜ now value ≡ digitValues ⌝ }
+    ensures { λ r. ⌜ r ≡ digit high * 16 + digit low ⌝ }
+{
+    let h = text::digit(value, high);
+    let l = text::digit(value, low);
+    (h as u16) * 16 + (l as u16)
+}
+
+// Reads lines up to the first that does not pass, or so many, and writes their cards to the front of `card`. Returns how many pass.
+// A value below `cards` says that both digits are digits and that the card is one of the ticket's.
+fn read_passing(value: &[u8; 256], s: &[u8], cards: u8, lines: usize, card: &mut [u8]) -> usize
+    requires { ⌜ (now value ≡ digitValues) × (lines ≤ maxFrames) × (lines ≤ length (now card)) × (lineBytes * lines ≤ length (now s)) ⌝ }
+    ensures { λ r. ⌜ ReadTo (now (s .entry)) cards lines (now (card .entry)) r (now (card .exit)) ⌝ }
+{
+    let below = cards as u16;
+    let mut at: usize = 0;
+    let mut i: usize = 0;
+    while i < lines {
+        let c = pair(value, s[at], s[at + 1]);
+        if below <= c {
+            return i;
+        }
+        if s[at + 2] != text::END {
+            return i;
+        }
+        card[i] = c as u8;
+        at += 3;
+        i += 1;
+    }
+    i
+}
+
+// The refusal of a line that does not pass: 7 where it is not 2 digits and an end byte, otherwise 8.
+fn line_fault(value: &[u8; 256], s: &[u8], at: usize) -> u8
     requires { ⌜ (now value ≡ digitValues) × (at ≤ lineBytes * maxFrames) ⌝ }
-    ensures { λ r. ⌜ r ≡ cond (isLine (now (s .entry)) at lineDigits) (number (now (s .entry)) at lineDigits) 256 ⌝ }
+    ensures { λ r. ⌜ r ≡ cond (isLine (now (s .entry)) at lineDigits) 8 7 ⌝ }
 {
     if s.len() < at + 3 {
-        return 256;
+        return 7;
     }
-    let high = text::digit(value, s[at]);
-    if 16 <= high {
-        return 256;
+    if 16 <= text::digit(value, s[at]) {
+        return 7;
     }
-    let low = text::digit(value, s[at + 1]);
-    if 16 <= low {
-        return 256;
+    if 16 <= text::digit(value, s[at + 1]) {
+        return 7;
     }
     if s[at + 2] != text::END {
-        return 256;
+        return 7;
     }
-    (high as u16) * 16 + (low as u16)
+    8
+}
+
+fn fewer(a: usize, b: usize) -> usize
+    ensures { λ r. ⌜ r ≡ min a b ⌝ }
+{
+    if a < b { a } else { b }
 }
 
 // Reads the part of a ticket that starts after its header, which should be one line for each frame, and writes the frames' cards to the
@@ -37,23 +76,13 @@ pub(crate) fn read_lines(value: &[u8; 256], s: &[u8], cards: u8, frames: u16, ca
     requires { ⌜ (now value ≡ digitValues) × (frames ≤ length (now card)) × (frames ≤ maxFrames) ⌝ }
     ensures { λ r. ⌜ (r ≡ partFault (now (s .entry)) cards frames) × (r ≡ 0 → now (card .exit) ≡ tabulate frames (cardAt (now (s .entry))) ++ drop frames (now (card .entry))) ⌝ }
 {
-    let below = cards as u16;
     let n = frames as usize;
-    let mut at: usize = 0;
-    let mut i: usize = 0;
-    while i < n {
-        let c = line_value(value, s, at);
-        if 256 <= c {
-            return 7;
-        }
-        if below <= c {
-            return 8;
-        }
-        card[i] = c as u8;
-        at += 3;
-        i += 1;
+    let whole = s.len() / 3;
+    let passing = read_passing(value, s, cards, fewer(whole, n), card);
+    if passing < n {
+        return line_fault(value, s, 3 * passing);
     }
-    if at < s.len() {
+    if 3 * n < s.len() {
         return 9;
     }
     0

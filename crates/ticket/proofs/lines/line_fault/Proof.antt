@@ -1,14 +1,11 @@
--- `ticket::lines::line_value` meets its contract.
+-- `ticket::lines::line_fault` meets its contract.
 -- Assumes nothing.
 use native.Mathlib.Omega.{arith}
 use Rattle.text.proofs.Digits.{too-short}
-use Rattle.ticket.proofs.Faults.{no-line, high-not, low-not, no-end, line-number}
+use Rattle.ticket.proofs.Faults.{no-line, a-line, is-a-line, high-not, low-not, no-end}
 use borrow.Author.Needs.{needs}
-use Rattle.ticket.proofs.lines.line_value.Statement.{statement}
-use Rattle.ticket.proofs.lines.line_value.Tie as tie
-use Rattle.ticket.proofs.lines.line_value.Reads as reads
-use Rattle.ticket.proofs.lines.line_value.Lts as lts
-use Rattle.text.proofs.digit.Reads as digit-reads
+use Rattle.ticket.proofs.lines.line_fault.Statement.{statement}
+use Rattle.ticket.proofs.lines.line_fault.Tie as tie
 
 add-if1 : tie.Need-add-if1
 add-if1 c = search needs
@@ -54,27 +51,15 @@ returns-4 c =
     let l = c .before .before .before .digit2 .ensures .1 p in
     no-line _ _ (no-end _ _ (omega arith) (omega (arith, h)) (omega (arith, l)) (λ e. omega arith))
 
-cast-result : tie.Need-cast-result
-cast-result c = search needs
-
-mul-result : tie.Need-mul-result
-mul-result c = search needs
-
-cast-result-2 : tie.Need-cast-result-2
-cast-result-2 c = search needs
-
-add-result : tie.Need-add-result
-add-result c = search needs
-
 returns-5 : tie.Need-returns-5
 returns-5 c =
     let p = c .before .before .before .before .before .before .before .before .before .before .pre .0 in
     let h = c .before .before .before .before .before .before .digit .ensures .1 p in
     let l = c .before .before .before .digit2 .ensures .1 p in
-    line-number _ _ (omega arith) h l (omega arith) (omega arith) (omega arith)
+    a-line _ _ (is-a-line _ _ (omega arith) (omega (arith, h)) (omega (arith, l)) (omega arith))
 
-pub line-value-spec : {M : Type 1} → statement M
-line-value-spec =
+pub line-fault-spec : {M : Type 1} → statement M
+line-fault-spec =
     tie.close
     (tie.spec
     add-if1
@@ -89,8 +74,4 @@ line-value-spec =
     add-if4
     shared-slice-read-if4
     returns-4
-    cast-result
-    mul-result
-    cast-result-2
-    add-result
     returns-5)

@@ -1,0 +1,133 @@
+-- `ticket::lines::read_passing` meets its contract.
+-- Assumes nothing.
+use Prim.Native.Nat.{_*_, _-_, _≤_, _<_}
+use mathlib.Core.Path.{_≡_, refl}
+use mathlib.Core.List.{_++_}
+use native.Mathlib.Omega.{arith}
+use denote.Ref.{now}
+use lib.ListN.{length, drop, length-set}
+use Rattle.schedule.specs.Count.{tabulate}
+use Rattle.schedule.proofs.Lists.{fill}
+use Rattle.ticket.specs.Ticket.{lineBytes, cardAt, linesFault}
+use Rattle.ticket.proofs.Faults.{too-high, other-end, is-card, passes}
+use borrow.Author.Needs.{needs}
+use Rattle.ticket.proofs.lines.read_passing.Statement.{statement}
+use Rattle.ticket.proofs.lines.read_passing.Tie as tie
+
+abbrev Inv-loop : tie.InvT-loop
+Inv-loop value s cards lines card₀ below at₀ i₀ card at i = (i ≤ lines) × (at ≡ lineBytes * i) × (linesFault s cards i ≡ 0) × (length card ≡ length card₀) × (card ≡ tabulate i (cardAt s) ++ drop i card₀)
+
+abbrev μ-loop : tie.MeasureT-loop
+μ-loop value s cards lines card₀ below at₀ i₀ card at i = lines - i
+
+loop-holds : tie.Need-loop-holds Inv-loop μ-loop
+unfolding linesFault
+loop-holds c = (omega arith, omega arith, refl, refl, refl)
+
+shared-slice-read-pair : tie.Need-shared-slice-read-pair Inv-loop μ-loop
+shared-slice-read-pair c = search needs
+
+add-pair : tie.Need-add-pair Inv-loop μ-loop
+add-pair c = search needs
+
+shared-slice-read-pair-2 : tie.Need-shared-slice-read-pair-2 Inv-loop μ-loop
+shared-slice-read-pair-2 c = search needs
+
+pair-requires : tie.Need-pair-requires Inv-loop μ-loop
+pair-requires c κs = search needs
+
+same-length : tie.Need-same-length Inv-loop μ-loop
+same-length c = search needs
+
+returns : tie.Need-returns Inv-loop μ-loop
+returns c =
+    let l = c .before .before .before .before .before .loop in
+    let v = c .before .pair in
+    record {
+      up-to = omega arith;
+      pass = l .inv .2;
+      stops = λ k. too-high _ _ (l .i) (l .at) (v .result) (l .inv .1) (v .ensures) (omega arith);
+      filled = l .inv .4;
+    }
+
+add-if2 : tie.Need-add-if2 Inv-loop μ-loop
+add-if2 c = search needs
+
+shared-slice-read-if2 : tie.Need-shared-slice-read-if2 Inv-loop μ-loop
+shared-slice-read-if2 c = search needs
+
+same-length-2 : tie.Need-same-length-2 Inv-loop μ-loop
+same-length-2 c = search needs
+
+returns-2 : tie.Need-returns-2 Inv-loop μ-loop
+returns-2 c =
+    let l = c .before .before .before .before .before .before .before .loop in
+    let v = c .before .before .before .pair in
+    record {
+      up-to = omega arith;
+      pass = l .inv .2;
+      stops = λ k. other-end _ _ (l .i) (l .at) (v .result) (l .inv .1) (v .ensures) (λ e. omega arith);
+      filled = l .inv .4;
+    }
+
+cast-card : tie.Need-cast-card Inv-loop μ-loop
+cast-card c = search needs
+
+slice-write-card : tie.Need-slice-write-card Inv-loop μ-loop
+slice-write-card c = search needs
+
+add-at : tie.Need-add-at Inv-loop μ-loop
+add-at c = search needs
+
+add-i : tie.Need-add-i Inv-loop μ-loop
+add-i c = search needs
+
+loop-less : tie.Need-loop-less Inv-loop μ-loop
+loop-less c = search needs
+
+loop-again : tie.Need-loop-again Inv-loop μ-loop
+loop-again c =
+    let l = c .before .before .before .before .before .before .before .loop in
+    let v = c .before .before .before .pair in
+    let a = c .before .before .before .before .before .before .before .before .before .before .args in
+    let q : v .result ≡ cardAt (now (a .s)) (l .i) = is-card _ (a .cards) _ (l .at) (v .result) (l .inv .1) (v .ensures) in (
+      omega arith,
+      omega arith,
+      passes _ _ _ (l .at) (v .result) (l .inv .1) (v .ensures) (omega arith) (omega arith) (omega arith) (omega arith) (l .inv .2),
+      simp length-set (l .inv .3),
+      rw (l .inv .4, q) (fill (cardAt (now (a .s))) (l .i) (now (a .card)) (omega arith)),
+    )
+
+same-length-3 : tie.Need-same-length-3 Inv-loop μ-loop
+same-length-3 c = search needs
+
+returns-3 : tie.Need-returns-3 Inv-loop μ-loop
+returns-3 c =
+    let l = c .before .loop in
+    record { up-to = omega arith; pass = l .inv .2; stops = λ k. absurd (omega arith); filled = l .inv .4 }
+
+pub read-passing-spec : {M : Type 1} → statement M
+read-passing-spec =
+    tie.close
+    (tie.spec
+    Inv-loop
+    μ-loop
+    loop-holds
+    shared-slice-read-pair
+    add-pair
+    shared-slice-read-pair-2
+    pair-requires
+    same-length
+    returns
+    add-if2
+    shared-slice-read-if2
+    same-length-2
+    returns-2
+    cast-card
+    slice-write-card
+    add-at
+    add-i
+    loop-less
+    loop-again
+    same-length-3
+    returns-3)
