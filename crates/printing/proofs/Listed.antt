@@ -33,8 +33,8 @@ put-refusal l x y number e f =
     let four : length (a ++ b) ≡ 4 = omega (arith, length-append a b, length-hex 2 255, length-hex 2 number) in
     rw (f, e, sets-append l 0 a b 2 (rw (length-hex 2 255)), sets-append l 0 (a ++ b) endOfLine 4 (rw four), append-assoc a b endOfLine)
 
-pub refusal-long : (l x y : List ℕ) (number : ℕ) → x ≡ sets l 0 (hex 2 255) → y ≡ sets x 2 (hex 2 number) → length y ≡ length l
-refusal-long l x y number e f = put-length x y 2 (hex 2 number) f ∙ put-length l x 0 (hex 2 255) e
+pub refusal-long : (l x y : List ℕ) (mark number : ℕ) → x ≡ sets l 0 (hex 2 mark) → y ≡ sets x 2 (hex 2 number) → length y ≡ length l
+refusal-long l x y mark number e f = put-length x y 2 (hex 2 number) f ∙ put-length l x 0 (hex 2 mark) e
 
 pub refusal-length : (number : ℕ) → length (refusalText number) ≡ 5
 unfolding refusalText

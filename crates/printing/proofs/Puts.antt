@@ -1,15 +1,22 @@
--- Digits put into a list place by place: the stores one after another are one run of stores (`sets`).
+-- Digits taken from the table and put into a list place by place: the stores one after another are one run of stores (`sets`).
 -- Assumes nothing.
 use Prim.Native.Nat.{ℕ, suc, _+_, _/_, _%_, _<_}
 use mathlib.Core.Path.{_≡_, ap, _∙_}
 use mathlib.Core.List.{List, [], _∷_, _++_, append-assoc}
 use native.Mathlib.Omega.{arith}
 use native.Mathlib.Numerals.{add-one}
-use lib.ListN.{length, set, length-set, length-append}
+use lib.ListN.{length, getD, set, length-set, length-append}
 use lib.Seq.{sets, length-sets}
+use Rattle.schedule.proofs.Lists.{getD-tabulate}
 use Rattle.text.proofs.Hex.{length-hex}
 use Rattle.text.specs.Hex.{digitOf, hex, endOfLine}
 use Rattle.text.specs.Text.{endByte}
+use Rattle.printing.specs.Put.{digitTexts}
+
+-- the table of digits, read at a value
+pub text-of : (l : List ℕ) → l ≡ digitTexts → (v : ℕ) → v < 16 → getD l v 0 ≡ digitOf v
+unfolding digitTexts
+text-of l e v h = rw e (getD-tabulate 16 digitOf v 0 h)
 
 -- a run of stores, and a run from where it ended
 pub sets-append : (l : List ℕ) (i : ℕ) (a b : List ℕ) (k : ℕ) → k ≡ i + length a → sets (sets l i a) k b ≡ sets l i (a ++ b)

@@ -6,7 +6,7 @@ ghost use lib.ListN.{length};
 ghost use lib.Seq.{sets};
 ghost use Rattle.text.specs.Hex.{hex, endOfLine};
 ghost use Rattle.printing.specs.Printed.{printed, refusalText};
-ghost use Rattle.printing.specs.Put.{Made, Put};
+ghost use Rattle.printing.specs.Put.{digitTexts, Made, Put};
 use crate::digits;
 
 // FF and the number.
@@ -16,21 +16,30 @@ pub(crate) fn refusal(number: u8, out: &mut [u8]) -> usize
     if out.len() < 5 {
         return 0;
     }
-    digits::put2(out, 0, 255);
-    digits::put2(out, 2, number);
+    let digit = digits::digit_texts();
+    digits::put2(&digit, out, 0, 255);
+    digits::put2(&digit, out, 2, number);
     out[4] = text::END;
     5
 }
 
 // A frame's line, at a place. The card's two digits are given as they stand in the ticket.
-fn frame_line(out: &mut [u8], at: usize, position: u16, high: u8, low: u8, cycle: u16)
-    requires { ⌜ at + 11 ≤ length (now out) ⌝ }
+fn frame_line(
+    digit: &[u8; 16],
+    out: &mut [u8],
+    at: usize,
+    position: u16,
+    high: u8,
+    low: u8,
+    cycle: u16,
+)
+    requires { ⌜ (now digit ≡ digitTexts) × (at + 11 ≤ length (now out)) ⌝ }
     ensures { λ r. ⌜ now (out .exit) ≡ sets (now (out .entry)) at (hex 4 position ++ ((high ∷ low ∷ []) ++ (hex 4 cycle ++ endOfLine))) ⌝ }
 {
-    digits::put4(out, at, position);
+    digits::put4(digit, out, at, position);
     out[at + 4] = high;
     out[at + 5] = low;
-    digits::put4(out, at + 6, cycle);
+    digits::put4(digit, out, at + 6, cycle);
     out[at + 10] = text::END;
 }
 
@@ -43,11 +52,13 @@ pub(crate) fn plan(ticket: &[u8], cycles: u16, plan: &[u16], out: &mut [u8]) -> 
     if out.len() < 5 + 11 * n {
         return 0;
     }
-    digits::put4(out, 0, cycles);
+    let digit = digits::digit_texts();
+    digits::put4(&digit, out, 0, cycles);
     out[4] = text::END;
     let mut i: usize = 0;
     while i < n {
         frame_line(
+            &digit,
             out,
             5 + 11 * i,
             i as u16,

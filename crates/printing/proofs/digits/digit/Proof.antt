@@ -1,22 +1,15 @@
 -- `printing::digits::digit` meets its contract.
 -- Assumes nothing.
-use Rattle.text.proofs.Hex.{small-digit, large-digit}
-use native.Mathlib.Omega.{arith}
+use Rattle.printing.proofs.Puts.{text-of}
 use borrow.Author.Needs.{needs}
 use Rattle.printing.proofs.digits.digit.Statement.{statement}
 use Rattle.printing.proofs.digits.digit.Tie as tie
 
-add-result : tie.Need-add-result
-add-result c = search needs
-
-add-result-2 : tie.Need-add-result-2
-add-result-2 c = search needs
+element-copy-out-result : tie.Need-element-copy-out-result
+element-copy-out-result c = search needs
 
 returns : tie.Need-returns
-returns c = omega (arith, small-digit (c .before .args .v) (omega arith))
-
-returns-2 : tie.Need-returns-2
-returns-2 c = omega (arith, large-digit (c .before .args .v) (omega arith))
+returns c = text-of _ (c .before .pre .0) _ (c .before .pre .1)
 
 pub digit-spec : {M : Type 1} → statement M
-digit-spec = tie.close (tie.spec add-result add-result-2 returns returns-2)
+digit-spec = tie.close (tie.spec element-copy-out-result returns)

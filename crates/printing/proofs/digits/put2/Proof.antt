@@ -20,7 +20,7 @@ add-out : tie.Need-add-out
 add-out c = search needs
 
 slice-write-out-2 : tie.Need-slice-write-out-2
-slice-write-out-2 c = simp length-set (omega (arith, c .before .before .before .pre))
+slice-write-out-2 c = simp length-set (omega (arith, c .before .before .before .pre .1))
 
 same-length : tie.Need-same-length
 same-length c = search needs

@@ -1,9 +1,8 @@
 -- `printing::lines::frame_line` meets its contract.
 -- Assumes nothing.
-use Rattle.printing.proofs.Puts.{put-line, line-length}
-use lib.ListN.{length-set}
-use Rattle.printing.proofs.Puts.{put-line}
 use native.Mathlib.Omega.{arith}
+use lib.ListN.{length-set}
+use Rattle.printing.proofs.Puts.{put-line, line-length}
 use borrow.Author.Needs.{needs}
 use Rattle.printing.proofs.lines.frame_line.Statement.{statement}
 use Rattle.printing.proofs.lines.frame_line.Tie as tie
@@ -27,13 +26,15 @@ add-put4 : tie.Need-add-put4
 add-put4 c = search needs
 
 put4-requires-2 : tie.Need-put4-requires-2
-put4-requires-2 c κs = simp length-set (omega arith)
+put4-requires-2 c κs = (c .before .before .before .before .before .before .pre .0, simp length-set (omega arith))
 
 add-out-3 : tie.Need-add-out-3
 add-out-3 c = search needs
 
 slice-write-out-3 : tie.Need-slice-write-out-3
-slice-write-out-3 c = omega (arith, c .before .before .before .before .before .before .before .before .before .pre, line-length _ _ _ _ _ _ _ _ (c .before .before .before .before .before .before .put4 .ensures) (c .before .before .put42 .ensures))
+slice-write-out-3 c =
+    let first = c .before .before .before .before .before .before in
+    omega (arith, first .before .before .before .pre .1, line-length _ _ _ _ _ _ _ _ (first .put4 .ensures) (c .before .before .put42 .ensures))
 
 same-length : tie.Need-same-length
 same-length c = simp length-set (line-length _ _ _ _ _ _ _ _ (c .before .before .before .before .before .before .put4 .ensures) (c .before .before .put42 .ensures))

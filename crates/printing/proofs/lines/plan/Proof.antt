@@ -1,21 +1,20 @@
 -- `printing::lines::plan` meets its contract.
 -- Assumes nothing.
-use Rattle.printing.proofs.Listed.{linesFrom, head-length, long, frames-is, frames-few, no-lines, next-line, put-all, text-long}
-use native.Mathlib.Omega.{arith}
 use Prim.Native.Nat.{_≤_, _-_}
 use mathlib.Core.Path.{_≡_}
+use native.Mathlib.Omega.{arith}
 use lib.Seq.{sets}
-use Rattle.printing.proofs.Listed.{linesFrom, long, frames-is, frames-few, no-lines, next-line, put-all, text-long}
+use Rattle.printing.proofs.Listed.{linesFrom, head-length, long, frames-is, frames-few, no-lines, next-line, put-all, text-long}
 use Rattle.printing.proofs.Outcome.{no-room}
 use borrow.Author.Needs.{needs}
 use Rattle.printing.proofs.lines.plan.Statement.{statement}
 use Rattle.printing.proofs.lines.plan.Tie as tie
 
 abbrev Inv-loop : tie.InvT-loop
-Inv-loop ticket cycles plan out₀ n i₀ out i = (i ≤ n) × (out ≡ sets out₀ 5 (linesFrom ticket plan i))
+Inv-loop ticket cycles plan out₀ n digit i₀ out i = (i ≤ n) × (out ≡ sets out₀ 5 (linesFrom ticket plan i))
 
 abbrev μ-loop : tie.MeasureT-loop
-μ-loop ticket cycles plan out₀ n i₀ out i = n - i
+μ-loop ticket cycles plan out₀ n digit i₀ out i = n - i
 
 sub-n : tie.Need-sub-n Inv-loop μ-loop
 sub-n c = omega (arith, long _ _ _ (c .before .before .before .pre))
@@ -28,6 +27,9 @@ add-if1 c = omega (arith, long _ _ _ (c .before .before .before .pre), frames-fe
 
 returns : tie.Need-returns Inv-loop μ-loop
 returns c = no-room _ _ (omega (arith, long _ _ _ (c .before .before .before .before .pre), text-long _ _ _ (c .before .before .before .before .pre)))
+
+digit-texts-requires : tie.Need-digit-texts-requires Inv-loop μ-loop
+digit-texts-requires c κs = search needs
 
 put4-requires : tie.Need-put4-requires Inv-loop μ-loop
 put4-requires c κs = search needs
@@ -45,7 +47,9 @@ add-frame-line : tie.Need-add-frame-line Inv-loop μ-loop
 add-frame-line c = search needs
 
 cast-frame-line : tie.Need-cast-frame-line Inv-loop μ-loop
-cast-frame-line c = omega (arith, long _ _ _ (c .before .before .before .before .before .before .before .before .before .before .before .pre), frames-few _ _ _ (c .before .before .before .before .before .before .before .before .before .before .before .pre))
+cast-frame-line c =
+    let start = c .before .before .before .before .before .before .before .before .before .before .before .before .before .before in
+    omega (arith, long _ _ _ (start .pre), frames-few _ _ _ (start .pre))
 
 mul-frame-line-2 : tie.Need-mul-frame-line-2 Inv-loop μ-loop
 mul-frame-line-2 c = search needs
@@ -69,10 +73,17 @@ mul-frame-line-4 : tie.Need-mul-frame-line-4 Inv-loop μ-loop
 mul-frame-line-4 c = search needs
 
 shared-slice-read-frame-line-3 : tie.Need-shared-slice-read-frame-line-3 Inv-loop μ-loop
-shared-slice-read-frame-line-3 c = omega (arith, long _ _ _ (c .before .before .before .before .before .before .before .before .before .before .before .before .before .before .pre), c .before .before .before .before .before .before .before .before .before .before .before .before .before .before .pre .room)
+shared-slice-read-frame-line-3 c =
+    let start = c .before .before .before .before .before .before .before .before .before .before .before .before .before .before .before .before .before in
+    omega (arith, long _ _ _ (start .pre), start .pre .room)
 
 frame-line-requires : tie.Need-frame-line-requires Inv-loop μ-loop
-frame-line-requires c κs = omega (arith, head-length _ _ _ _ (linesFrom (c .before .before .before .before .before .before .before .before .before .before .before .before .before .before .args .ticket .now) (c .before .before .before .before .before .before .before .before .before .before .before .before .before .before .args .plan .now) (c .before .before .before .before .before .loop .i)) (c .before .before .before .before .before .before .before .before .put4 .ensures) (c .before .before .before .before .before .loop .inv .1))
+frame-line-requires c κs =
+    let turn = c .before .before .before .before .before .before in
+    let head = turn .before .before .before in
+    let start = head .before .before .before .before .before .before .before .before in
+    let text = linesFrom (start .args .ticket .now) (start .args .plan .now) (turn .loop .i) in
+    (head .before .before .before .digit-texts .ensures, omega (arith, head-length _ _ _ _ text (head .put4 .ensures) (turn .loop .inv .1)))
 
 add-i : tie.Need-add-i Inv-loop μ-loop
 add-i c = search needs
@@ -81,7 +92,9 @@ loop-less : tie.Need-loop-less Inv-loop μ-loop
 loop-less c = search needs
 
 loop-again : tie.Need-loop-again Inv-loop μ-loop
-loop-again c = (omega arith, next-line _ _ _ _ _ _ (c .before .before .before .before .before .before .before .before .loop .inv .1) (c .before .before .frame-line .ensures))
+loop-again c =
+    let turn = c .before .before .before .before .before .before .before .before .before in
+    (omega arith, next-line _ _ _ _ _ _ (turn .loop .inv .1) (c .before .before .frame-line .ensures))
 
 mul-result : tie.Need-mul-result Inv-loop μ-loop
 mul-result c = search needs
@@ -90,10 +103,17 @@ add-result : tie.Need-add-result Inv-loop μ-loop
 add-result c = search needs
 
 same-length : tie.Need-same-length Inv-loop μ-loop
-same-length c = head-length _ _ _ _ (linesFrom (c .before .before .before .before .before .before .before .before .before .before .args .ticket .now) (c .before .before .before .before .before .before .before .before .before .before .args .plan .now) (c .before .loop .i)) (c .before .before .before .before .put4 .ensures) (c .before .loop .inv .1)
+same-length c =
+    let head = c .before .before .before .before in
+    let start = head .before .before .before .before .before .before .before .before in
+    let text = linesFrom (start .args .ticket .now) (start .args .plan .now) (c .before .loop .i) in
+    head-length _ _ _ _ text (head .put4 .ensures) (c .before .loop .inv .1)
 
 returns-2 : tie.Need-returns-2 Inv-loop μ-loop
-returns-2 c = put-all _ _ _ (c .before .before .before .before .before .before .before .before .before .before .pre) _ _ _ _ _ (frames-is _ _ _ (c .before .before .before .before .before .before .before .before .before .before .pre)) (omega arith) (omega arith) (c .before .before .before .before .put4 .ensures) (c .before .loop .inv .1)
+returns-2 c =
+    let head = c .before .before .before .before in
+    let made = head .before .before .before .before .before .before .before .before .pre in
+    put-all _ _ _ made _ _ _ _ _ (frames-is _ _ _ made) (omega arith) (omega arith) (head .put4 .ensures) (c .before .loop .inv .1)
 
 pub plan-spec : {M : Type 1} → statement M
 plan-spec =
@@ -105,6 +125,7 @@ plan-spec =
     mul-if1
     add-if1
     returns
+    digit-texts-requires
     put4-requires
     slice-write-out
     loop-holds
