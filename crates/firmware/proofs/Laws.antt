@@ -10,7 +10,7 @@ use Rattle.schedule.specs.declared.Cycle.{Cycle}
 use Rattle.ticket.specs.Ticket.{parse, refusalOf, countsOf}
 use Rattle.planner.specs.Plan as planning
 use Rattle.planner.specs.Demand3.{Demand3}
-use Rattle.planner.specs.declared.Answer.{Answer as Planner}
+use Rattle.planner.specs.declared.Answer.{Answer as PlannerAnswer}
 use Rattle.checker.specs.Check.{isValid, checkOf}
 use Rattle.checker.specs.Exact.{Exact}
 use Rattle.checker.specs.declared.Verdict.{Verdict}
@@ -27,7 +27,7 @@ pub counted :
 counted t number frames e f = rw (e, f) refl
 
 -- the contract of `dockplan_plan` from that of `planner::plan`
-module _ (t before after : List ℕ) (a : Planner) (r : PlanAnswer) (e : r ≡ planAnswer a) where
+module _ (t before after : List ℕ) (a : PlannerAnswer) (r : PlanAnswer) (e : r ≡ planAnswer a) where
   pub planned :
       (a ≡ planning.answerTo (parse t) (length before))
       × ((after ≡ planning.bufferAfter (parse t) before) × Demand3 t (planning.refusalIn a) (planning.lengthIn a) after)

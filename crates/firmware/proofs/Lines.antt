@@ -10,7 +10,6 @@ use lib.Seq.{length-take-le}
 use Rattle.ticket.specs.Ticket.{parse, lineDigits, lineRefusalOf, lineStart, lineOf, linePlace}
 use Rattle.ticket.proofs.Answers.{no-line, no-place, line-fits, cut-line, the-line, its-place}
 use Rattle.firmware.specs.Answers.{linePart}
-use Rattle.firmware.specs.declared.tickets.Part.{Part}
 
 module _ (t : List ℕ) (p : ℕ) where
   -- a line has its digits
@@ -20,14 +19,14 @@ module _ (t : List ℕ) (p : ℕ) where
       sym (ap length (sym (cut-line t p refl) ∙ the-line t p e refl)) ∙ length-take-le lineDigits (drop (lineStart p) t) l
 
   -- so no line is empty, and an empty part is no line
-  pub line-when : length (lineOf t p) ≡ 0 → (0 ≡ linePlace t p) × ([] ≡ lineOf t p)
+  line-when : length (lineOf t p) ≡ 0 → (0 ≡ linePlace t p) × ([] ≡ lineOf t p)
   line-when z =
       elim (ℕ-discrete (lineRefusalOf (parse t) p) 0) [
         | yes e ↦ absurd (omega (arith, line-length (sym e)))
         | no n ↦ (no-place t p refl n, no-line t p refl n)
       ]
 
-  pub line-there :
+  line-there :
       (at : ℕ) → at ≡ lineStart p → (length (lineOf t p) ≡ 0 → ⊥)
       → (at ≡ linePlace t p) × (take (length (lineOf t p)) (drop at t) ≡ lineOf t p)
   line-there at a n =

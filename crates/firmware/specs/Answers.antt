@@ -7,18 +7,18 @@ use mathlib.Core.List.{List}
 use lib.ListN.{length}
 use Rattle.schedule.specs.declared.Cycle.{Cycle}
 use Rattle.schedule.specs.declared.Position.{Position}
-use Rattle.header.specs.declared.Answer.{Answer as Header}
+use Rattle.header.specs.declared.Answer.{Answer as HeaderAnswer}
 use Rattle.header.specs.declared.Answer.the-variants.{Accepted, Refused as RefusedHeader}
 use Rattle.ticket.specs.Ticket.{Parsed, refusalOf, lineOf, linePlace, countsOf}
 use Rattle.planner.specs.Plan as planning
-use Rattle.planner.specs.declared.Answer.{Answer as Planner}
+use Rattle.planner.specs.declared.Answer.{Answer as PlannerAnswer}
 use Rattle.checker.specs.Check.{refusalIn, lengthIn, peakIn}
 use Rattle.checker.specs.declared.Verdict.{Verdict}
 use Rattle.checker.specs.declared.Verdict.the-variants.{Valid, NoCycle, SharedCard, Overfull, Refused}
 use Rattle.replay.specs.declared.Outcome.{Outcome}
 use Rattle.replay.specs.declared.Outcome.the-variants.{Complete, Unfinished}
 use Rattle.replay.specs.declared.Run.{Run}
-use Rattle.replay.specs.declared.Answer.{Answer as Replay}
+use Rattle.replay.specs.declared.Answer.{Answer as ReplayAnswer}
 use Rattle.replay.specs.declared.Answer.the-variants.{Ran, Refused as RefusedRun}
 use Rattle.firmware.specs.declared.tickets.TicketAnswer.{TicketAnswer}
 use Rattle.firmware.specs.declared.tickets.Part.{Part}
@@ -31,7 +31,7 @@ abbrev cycle : ℕ → Cycle
 cycle c = record { 0 = c }
 
 -- what the header of a ticket says
-abbrev pub ticketAnswer : Header → TicketAnswer
+abbrev pub ticketAnswer : HeaderAnswer → TicketAnswer
 ticketAnswer (Accepted h) =
     record { refusal = 0; edition = h .edition; mode = h .mode; cards = h .cards; pool = h .pool; frames = h .frames }
 ticketAnswer (RefusedHeader k) = record { refusal = k; edition = 0; mode = 0; cards = 0; pool = 0; frames = 0 }
@@ -45,7 +45,7 @@ abbrev pub countsAnswer : Parsed → CountsAnswer
 countsAnswer p = record { refusal = refusalOf p; frames = countsOf p }
 
 -- T of a plan
-abbrev pub planAnswer : Planner → PlanAnswer
+abbrev pub planAnswer : PlannerAnswer → PlanAnswer
 planAnswer r = record { refusal = planning.refusalIn r; cycles = cycle (planning.lengthIn r) }
 
 -- The numbers of the verdicts; 0, which is none of them, stands beside a refusal.
@@ -92,7 +92,7 @@ runNumbers run =
       peak = run .peak;
     }
 
-abbrev pub runAnswer : Replay → RunAnswer
+abbrev pub runAnswer : ReplayAnswer → RunAnswer
 runAnswer (Ran run) = runNumbers run
 runAnswer (RefusedRun k) =
     record { refusal = k; broken = false; complete = false; delivered = 0; ended = cycle 0; needed = cycle 0; peak = 0 }
