@@ -1,10 +1,16 @@
 # The two commands that a newcomer needs:
 #   make plan       prints the plan of an example ticket, or of TICKET=file
 #   make test       proves everything, tries the wrong versions, runs the test programs and compares the examples
+# For those who link the library:
+#   make firmware   builds target/staticlib/libfirmware.a and runs a small caller in C on TICKET
+#   make host       compares every call of the library, from Rust, with an implementation of its own
+#   make bench      measures the library against C and Rust
 
 TICKET = examples/first.ticket
+LIBRARY = target/staticlib/libfirmware.a
+CARGO = cd host && CARGO_TARGET_DIR=../target/host cargo
 
-.PHONY: plan test examples program
+.PHONY: plan test examples program library firmware host bench
 
 plan: program
 	@target/bin/dockplan < $(TICKET)
@@ -22,3 +28,17 @@ examples: program
 # proves the program and what it stands on, and builds it; the first time takes a minute or two
 program:
 	@out=$$(rt check dockplan 2>&1) || { echo "$$out"; exit 1; }
+
+# the same for the library
+library:
+	@out=$$(rt staticlib firmware 2>&1) || { echo "$$out"; exit 1; }
+
+firmware: library
+	@$(CC) -std=c11 -O2 -Wall -Wextra -Iinclude examples/firmware.c $(LIBRARY) -o target/firmware
+	@target/firmware < $(TICKET)
+
+host: library
+	@$(CARGO) test --release --offline --quiet -- --nocapture
+
+bench: library
+	@$(CARGO) run --release --offline --quiet --bin bench

@@ -1,0 +1,227 @@
+/* The dock planner for C and C++: plans, checks and runs for up to 32 memory cards and a pool of buffers.
+ *
+ * Link libfirmware.a (x86-64 Linux). From outside it needs memcpy and memset, and nothing else.
+ *
+ * What holds of every call:
+ *   - It is proved: for every input it does what its comment says, touches only the memory lent to it, and
+ *     returns. The proof is about callers who keep the rules of this page; nothing can check them here.
+ *   - It keeps no state and uses no heap, so calls may run at the same time in several threads.
+ *   - A refused call gives one number, of the table below. It changes nothing in lent memory, and the other
+ *     numbers of its answer are 0 (the saver's are said below). Only dockplan_print has no number: it prints it.
+ *   - A pointer and a count are one piece of memory: `count` elements from the pointer on, of its type and
+ *     alignment. With a count of 0 any pointer will do, NULL too. Memory that a call writes must not overlap
+ *     other memory lent to the same call.
+ *   - DOCKPLAN_STACK_.. is the stack that the call uses, in bytes, as measured on x86-64: all that lies below
+ *     its return address. Results of more than 16 bytes and the saver's record stand in the caller's memory.
+ *
+ * A ticket is text: a header of 14 digits and a line of 2 digits for each frame (docs/FORMAT.md). Any bytes may
+ * be handed in as a ticket. L is the number of its frames, T the number of a plan's cycles. The paper is D. A.
+ * Hutchinson, P. Sanders and J. S. Vitter, "Duality between prefetching and queued writing with parallel disks".
+ *
+ * Refusals, in the order in which they are tried: 1 to 6, then line by line 7 before 8, then 9; after that 10, or
+ * 12 before 11, or 16. A saver's are given with its calls.
+ *
+ *    1  the first 15 bytes are not 14 digits and an end byte     9  bytes follow the last line
+ *    2  edition is not 01                                       10  the plan buffer has fewer than L places
+ *    3  mode is over 02                                         11  a plan has not exactly L cycles
+ *    4  cards not 1 to 32                                       12  the checker is given mode 02
+ *    5  pool not 1 to 1,024                                     13  the saver has taken 4,096 frames
+ *    6  frames over 4,096                                       14  a closing cycle with an empty pool
+ *    7  a frame line is missing or is not 2 digits              15  a save after closing has begun
+ *       and an end byte                                         16  a line is wanted at a position not below L
+ *    8  a card number is not below cards
+ */
+#ifndef DOCKPLAN_H
+#define DOCKPLAN_H
+
+#include <stdbool.h>
+#include <stddef.h>
+#include <stdint.h>
+
+#ifdef __cplusplus
+extern "C" {
+#endif
+
+/* The limits of a ticket. */
+#define DOCKPLAN_MAX_CARDS 32
+#define DOCKPLAN_MAX_POOL 1024
+#define DOCKPLAN_MAX_FRAMES 4096
+#define DOCKPLAN_MAX_TICKET_BYTES 12303
+/* The bytes of the longest printed plan. */
+#define DOCKPLAN_MAX_PRINTED_BYTES 45061
+
+/* A ticket's modes. */
+#define DOCKPLAN_READ 0
+#define DOCKPLAN_SAVE 1
+#define DOCKPLAN_SAVE_AND_KEEP 2
+
+/* A cycle, counted from 1, and a frame's position in the list, counted from 0. They are types of their own, so
+ * that the compiler does not take one for the other. A plan's buffer holds plain numbers: place i has the cycle
+ * of the frame at position i. */
+typedef struct {
+    uint16_t number;
+} dockplan_cycle;
+
+typedef struct {
+    uint16_t number;
+} dockplan_position;
+
+/* ---- The ticket ---------------------------------------------------------------------------------------------- */
+
+/* What the header of a ticket says; frames is L. */
+typedef struct {
+    uint8_t refusal;
+    uint8_t edition;
+    uint8_t mode;
+    uint8_t cards;
+    uint16_t pool;
+    uint16_t frames;
+} dockplan_ticket_answer;
+
+/* Reads a whole ticket, its lines too, and answers what its header says. Refusals 1 to 9. */
+dockplan_ticket_answer dockplan_parse(const uint8_t *ticket, size_t bytes);
+#define DOCKPLAN_STACK_PARSE 12704
+
+/* A part of the caller's ticket: `length` bytes from byte `offset` on. */
+typedef struct {
+    size_t offset;
+    size_t length;
+} dockplan_part;
+
+/* The line of the frame at a position: the 2 digits of its card, without the end byte. With a refusal (1 to 9,
+ * then 16) offset and length are 0; the number is dockplan_line_refusal's. */
+dockplan_part dockplan_line(const uint8_t *ticket, size_t bytes, dockplan_position position);
+#define DOCKPLAN_STACK_LINE 12704
+
+/* The number that goes with dockplan_line: 0, the ticket's own refusal (1 to 9), or 16 for a position not below L. */
+uint8_t dockplan_line_refusal(const uint8_t *ticket, size_t bytes, dockplan_position position);
+#define DOCKPLAN_STACK_LINE_REFUSAL 12704
+
+/* How many frames each of the 32 cards has. */
+typedef struct {
+    uint8_t refusal;
+    uint16_t frames[DOCKPLAN_MAX_CARDS];
+} dockplan_counts_answer;
+
+/* Counts the frames of each card. Refusals 1 to 9. */
+dockplan_counts_answer dockplan_counts(const uint8_t *ticket, size_t bytes);
+#define DOCKPLAN_STACK_COUNTS 16896
+
+/* ---- The plan ------------------------------------------------------------------------------------------------ */
+
+/* T, the number of cycles of a plan. */
+typedef struct {
+    uint8_t refusal;
+    dockplan_cycle cycles;
+} dockplan_plan_answer;
+
+/* Plans a ticket. The read plan is lazy prefetching: no way of driving the dock needs fewer than its T cycles. The
+ * save plan is greedyWriting: no correct schedule has fewer. The first L places of the plan get each frame's cycle
+ * (0 for a frame that save and keep leaves in the pool), later places keep their content. Refusals 1 to 9, then 10
+ * where `places` is below L. L is dockplan_parse's, and DOCKPLAN_MAX_FRAMES places are always enough. */
+dockplan_plan_answer dockplan_plan(const uint8_t *ticket, size_t bytes, uint16_t *plan, size_t places);
+#define DOCKPLAN_STACK_PLAN 12800
+
+/* Prints the plan of a ticket as text: T in 4 digits, then for each frame its position (4), card (2) and cycle (4),
+ * in upper-case hexadecimal, each line with its end byte. A ticket that is refused (1 to 9) prints one line, FF and
+ * the number in 2 digits. Answers how many bytes the text has; it stands at the front of the buffer, and later
+ * places keep their content. Where the whole text has no room, the answer is 0 and nothing changes;
+ * DOCKPLAN_MAX_PRINTED_BYTES places are always enough. */
+size_t dockplan_print(const uint8_t *ticket, size_t bytes, uint8_t *text, size_t places);
+#define DOCKPLAN_STACK_PRINT 21056
+
+/* ---- Plans that anyone made ---------------------------------------------------------------------------------- */
+
+/* The verdicts. 0 is none of them, so that a cleared answer never says valid. */
+#define DOCKPLAN_NO_VERDICT 0  /* the call was refused */
+#define DOCKPLAN_VALID 1       /* the plan is a correct schedule of `cycles` cycles */
+#define DOCKPLAN_NO_CYCLE 2    /* the frame at `position` has cycle 0 */
+#define DOCKPLAN_SHARED_CARD 3 /* an earlier frame of its card has the same cycle */
+#define DOCKPLAN_OVERFULL 4    /* too many frames in the pool */
+
+/* A verdict. T and the peak come with a valid plan, the position with a fault; they are 0 otherwise. The peak of a
+ * read plan is the most frames held right after the end of a cycle, on a dock with a buffer for every frame; a
+ * save's is 0. */
+typedef struct {
+    uint8_t refusal;
+    uint8_t verdict;
+    dockplan_position position;
+    dockplan_cycle cycles;
+    uint16_t peak;
+} dockplan_check_answer;
+
+/* Checks a plan for a read or save ticket: valid exactly when it is a correct schedule by the paper's conditions.
+ * Otherwise the lowest position at fault is named, with the first of its faults in the order above. Refusals 1 to 9,
+ * then 12 for mode 02, then 11 where `places` is not L. */
+dockplan_check_answer dockplan_check(const uint8_t *ticket, size_t bytes, const uint16_t *plan, size_t places);
+#define DOCKPLAN_STACK_CHECK 25072
+
+/* A plan's run on the dock: whether a step was against the rules (broken), the frames handed over, the cycles that
+ * ended, whether all frames were handed over (complete; with no frames they are) and the cycles needed for it, 0 if
+ * not, and the most frames held right after a cycle that ended. */
+typedef struct {
+    uint8_t refusal;
+    bool broken;
+    bool complete;
+    uint16_t delivered;
+    dockplan_cycle ended;
+    dockplan_cycle needed;
+    uint16_t peak;
+} dockplan_run_answer;
+
+/* Runs a plan, good or bad, on the dock of the ticket's list and pool: for each cycle the reads of its frames in
+ * list order, then the end of the cycle. A step against the rules breaks the run off. The ticket's mode is not looked
+ * at. Refusals 1 to 9, then 11 where `places` is not L. */
+dockplan_run_answer dockplan_run_plan(const uint8_t *ticket, size_t bytes, const uint16_t *plan, size_t places);
+#define DOCKPLAN_STACK_RUN_PLAN 33600
+
+/* ---- The saver: frames saved as they come -------------------------------------------------------------------- */
+
+/* A saver's record. It goes into each call by value and the new one comes back. HAND IN ONLY RECORDS THAT A CALL
+ * GAVE: the proofs of dockplan_saver_save and dockplan_saver_close are about these, and a record made or changed by
+ * hand may lead outside its tables. The frames in the pool stand at the first `waiting` places of the two tables,
+ * oldest first; the other places are 0. */
+typedef struct {
+    uint8_t cards;
+    uint16_t pool;
+    uint16_t taken;   /* frames saved: the next one's position */
+    uint16_t made;    /* cycles made */
+    uint16_t waiting; /* frames in the pool */
+    bool closing;
+    uint8_t card[DOCKPLAN_MAX_POOL];
+    uint16_t position[DOCKPLAN_MAX_POOL];
+} dockplan_saver;
+
+/* The entry of a card that writes nothing. */
+#define DOCKPLAN_NONE 65535
+
+/* What a call did: the number of the cycle that it made, 0 for none; for each card the position written in it,
+ * DOCKPLAN_NONE for none; and the new record. Beside a refusal the cycle is 0, each entry DOCKPLAN_NONE, and the
+ * record the one that was handed in. */
+typedef struct {
+    uint8_t refusal;
+    dockplan_cycle cycle;
+    dockplan_position written[DOCKPLAN_MAX_CARDS];
+    dockplan_saver saver;
+} dockplan_saver_answer;
+
+/* A new saver. Refusals 4, then 5; the record that comes with them has one card, a pool of 1 and closing begun, so
+ * it takes no frame. */
+dockplan_saver_answer dockplan_saver_new(uint8_t cards, uint16_t pool);
+#define DOCKPLAN_STACK_SAVER_NEW 3184
+
+/* Saves the next frame of the list, on this card; if the pool is full, one cycle is made first. Refusals 15, 8, 13 in
+ * this order. */
+dockplan_saver_answer dockplan_saver_save(dockplan_saver saver, uint8_t card);
+#define DOCKPLAN_STACK_SAVER_SAVE 9392
+
+/* Makes one closing cycle; ask until it is refused by 14, when the pool is empty. The first one that is not refused
+ * begins closing: no frame is taken from then on. */
+dockplan_saver_answer dockplan_saver_close(dockplan_saver saver);
+#define DOCKPLAN_STACK_SAVER_CLOSE 8336
+
+#ifdef __cplusplus
+}
+#endif
+
+#endif
