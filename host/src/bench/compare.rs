@@ -1,0 +1,111 @@
+//! Compares the implementations' answers before anything is measured: whole answers, and all of each buffer.
+
+use crate::implementations::Implementation;
+use crate::inputs::{self, Random, MAX_FRAMES, MAX_PRINTED_BYTES};
+use dockplan::raw::{CheckAnswer, PlanAnswer, TicketAnswer};
+use std::collections::BTreeSet;
+
+/// What a implementation answers for one ticket, with the buffers after each call.
+#[derive(PartialEq, Debug)]
+struct Answers {
+    parse: TicketAnswer,
+    plans: Vec<(PlanAnswer, Vec<u16>)>,
+    texts: Vec<(usize, Vec<u8>)>,
+    checks: Vec<CheckAnswer>,
+}
+
+/// Buffers of such lengths are lent: too short, just right and too long.
+fn lengths(exact: usize, longest: usize) -> [usize; 4] {
+    [0, exact.saturating_sub(1), exact, longest]
+}
+
+fn answers(implementation: &Implementation, ticket: &[u8], frames: usize, plans: &[Vec<u16>]) -> Answers {
+    let planned = |places| {
+        let mut plan = vec![0xABCD; places];
+        (implementation.plan(ticket, &mut plan), plan)
+    };
+    let printed = |places| {
+        let mut text = vec![0xAB; places];
+        (implementation.print(ticket, &mut text), text)
+    };
+    Answers {
+        parse: implementation.parse(ticket),
+        plans: lengths(frames, MAX_FRAMES).map(planned).into(),
+        texts: lengths(5 + 11 * frames, MAX_PRINTED_BYTES).map(printed).into(),
+        checks: plans.iter().map(|plan| implementation.check(ticket, plan)).collect(),
+    }
+}
+
+impl Answers {
+    /// The refusals and verdicts among the answers.
+    fn kinds(&self) -> impl Iterator<Item = Kind> + '_ {
+        let parse = [Kind::Refusal(self.parse.refusal)].into_iter();
+        let plans = self.plans.iter().map(|(answer, _)| Kind::Refusal(answer.refusal));
+        let checks = self
+            .checks
+            .iter()
+            .flat_map(|answer| [Kind::Refusal(answer.refusal), Kind::Verdict(answer.verdict)]);
+        parse.chain(plans).chain(checks)
+    }
+}
+
+#[derive(PartialEq, Eq, PartialOrd, Ord, Debug)]
+enum Kind {
+    Refusal(u8),
+    Verdict(u8),
+}
+
+/// The plan that the library makes for a ticket; it has no places for a refused one.
+pub fn own_plan(library: &Implementation, ticket: &[u8]) -> Vec<u16> {
+    let mut plan = vec![0; usize::from(library.parse(ticket).frames)];
+    library.plan(ticket, &mut plan);
+    plan
+}
+
+/// Compares the answers for one ticket, with several plans for it, and gives the library's.
+fn compare(
+    library: &Implementation,
+    others: &[&Implementation],
+    random: &mut Random,
+    ticket: &[u8],
+) -> Result<Answers, String> {
+    let own = own_plan(library, ticket);
+    let plans = inputs::plans(random, &own);
+    let expected = answers(library, ticket, own.len(), &plans);
+    for other in others {
+        let found = answers(other, ticket, own.len(), &plans);
+        if found != expected {
+            let (name, text) = (other.name, ticket.escape_ascii());
+            return Err(format!(
+                "{name} differs from the library\nticket: {text}\nlibrary: {expected:?}\n{name}: {found:?}"
+            ));
+        }
+    }
+    Ok(expected)
+}
+
+/// Compares the answers for these tickets, and for so many mixed ones, good and bad. Every refusal and every verdict must
+/// be among them, or the comparison would be worth little.
+pub fn compare_all(
+    library: &Implementation,
+    others: &[&Implementation],
+    tickets: &[Vec<u8>],
+    mixed: usize,
+) -> Result<(), String> {
+    let mut random = Random::new(0x2545_F491_4F6C_DD1D);
+    let mut missing: BTreeSet<Kind> = (0..=12).map(Kind::Refusal).chain((0..=4).map(Kind::Verdict)).collect();
+    for ticket in tickets {
+        compare(library, others, &mut random, ticket)?;
+    }
+    for _ in 0..mixed {
+        let ticket = inputs::mixed_ticket(&mut random);
+        for kind in compare(library, others, &mut random, &ticket)?.kinds() {
+            missing.remove(&kind);
+        }
+    }
+    if missing.is_empty() {
+        Ok(())
+    } else {
+        Err(format!("no ticket was compared that gives {missing:?}"))
+    }
+}

@@ -1,0 +1,105 @@
+//! Who is measured: the library, plain C by each compiler, and the simple Rust reference.
+//! All are called through pointers of one type, so that none is inlined into the measure.
+
+use dockplan::raw::{self, CheckAnswer, PlanAnswer, TicketAnswer};
+use dockplan::reference;
+use std::slice::{from_raw_parts, from_raw_parts_mut};
+
+type Parse = unsafe extern "C" fn(*const u8, usize) -> TicketAnswer;
+type Plan = unsafe extern "C" fn(*const u8, usize, *mut u16, usize) -> PlanAnswer;
+type Check = unsafe extern "C" fn(*const u8, usize, *const u16, usize) -> CheckAnswer;
+type Print = unsafe extern "C" fn(*const u8, usize, *mut u8, usize) -> usize;
+
+pub struct Implementation {
+    pub name: &'static str,
+    parse: Parse,
+    plan: Plan,
+    check: Check,
+    print: Print,
+}
+
+// SAFETY of these calls: each pointer and count are those of one slice, and what is written is borrowed alone.
+impl Implementation {
+    pub fn parse(&self, ticket: &[u8]) -> TicketAnswer {
+        unsafe { (self.parse)(ticket.as_ptr(), ticket.len()) }
+    }
+
+    pub fn plan(&self, ticket: &[u8], plan: &mut [u16]) -> PlanAnswer {
+        unsafe { (self.plan)(ticket.as_ptr(), ticket.len(), plan.as_mut_ptr(), plan.len()) }
+    }
+
+    pub fn check(&self, ticket: &[u8], plan: &[u16]) -> CheckAnswer {
+        unsafe { (self.check)(ticket.as_ptr(), ticket.len(), plan.as_ptr(), plan.len()) }
+    }
+
+    pub fn print(&self, ticket: &[u8], text: &mut [u8]) -> usize {
+        unsafe { (self.print)(ticket.as_ptr(), ticket.len(), text.as_mut_ptr(), text.len()) }
+    }
+}
+
+pub const LIBRARY: Implementation = Implementation {
+    name: "library",
+    parse: raw::dockplan_parse,
+    plan: raw::dockplan_plan,
+    check: raw::dockplan_check,
+    print: raw::dockplan_print,
+};
+
+/// c/plain.c by each compiler that is there.
+pub const C: &[Implementation] = &[
+    Implementation {
+        name: "gcc",
+        parse: gcc_parse,
+        plan: gcc_plan,
+        check: gcc_check,
+        print: gcc_print,
+    },
+    #[cfg(clang)]
+    Implementation {
+        name: "clang",
+        parse: clang_parse,
+        plan: clang_plan,
+        check: clang_check,
+        print: clang_print,
+    },
+];
+
+/// src/reference: written close to the paper's words, and not for speed.
+pub const RUST: Implementation = Implementation {
+    name: "Rust",
+    parse: rust_parse,
+    plan: rust_plan,
+    check: rust_check,
+    print: rust_print,
+};
+
+extern "C" {
+    fn gcc_parse(ticket: *const u8, bytes: usize) -> TicketAnswer;
+    fn gcc_plan(ticket: *const u8, bytes: usize, plan: *mut u16, places: usize) -> PlanAnswer;
+    fn gcc_check(ticket: *const u8, bytes: usize, plan: *const u16, places: usize) -> CheckAnswer;
+    fn gcc_print(ticket: *const u8, bytes: usize, text: *mut u8, places: usize) -> usize;
+}
+
+#[cfg(clang)]
+extern "C" {
+    fn clang_parse(ticket: *const u8, bytes: usize) -> TicketAnswer;
+    fn clang_plan(ticket: *const u8, bytes: usize, plan: *mut u16, places: usize) -> PlanAnswer;
+    fn clang_check(ticket: *const u8, bytes: usize, plan: *const u16, places: usize) -> CheckAnswer;
+    fn clang_print(ticket: *const u8, bytes: usize, text: *mut u8, places: usize) -> usize;
+}
+
+unsafe extern "C" fn rust_parse(ticket: *const u8, bytes: usize) -> TicketAnswer {
+    reference::parse(from_raw_parts(ticket, bytes))
+}
+
+unsafe extern "C" fn rust_plan(ticket: *const u8, bytes: usize, plan: *mut u16, places: usize) -> PlanAnswer {
+    reference::plan(from_raw_parts(ticket, bytes), from_raw_parts_mut(plan, places))
+}
+
+unsafe extern "C" fn rust_check(ticket: *const u8, bytes: usize, plan: *const u16, places: usize) -> CheckAnswer {
+    reference::check(from_raw_parts(ticket, bytes), from_raw_parts(plan, places))
+}
+
+unsafe extern "C" fn rust_print(ticket: *const u8, bytes: usize, text: *mut u8, places: usize) -> usize {
+    reference::print(from_raw_parts(ticket, bytes), from_raw_parts_mut(text, places))
+}

@@ -1,0 +1,108 @@
+//! Tickets and plans, made by a generator with a fixed start: each run of the program has the same ones.
+
+pub const MAX_CARDS: usize = 32;
+pub const MAX_POOL: usize = 1024;
+pub const MAX_FRAMES: usize = 4096;
+pub const MAX_PRINTED_BYTES: usize = 45061;
+
+/// Numbers that look random (xorshift).
+pub struct Random(u64);
+
+impl Random {
+    pub fn new(start: u64) -> Random {
+        Random(start)
+    }
+
+    /// A number from 0 to `limit` - 1.
+    pub fn below(&mut self, limit: usize) -> usize {
+        self.0 ^= self.0 << 13;
+        self.0 ^= self.0 >> 7;
+        self.0 ^= self.0 << 17;
+        ((self.0 >> 32) as usize) % limit
+    }
+}
+
+/// The text of a ticket, edition 1.
+pub fn ticket(mode: usize, cards: usize, pool: usize, list: &[usize]) -> Vec<u8> {
+    let mut text = format!("01{mode:02X}{cards:02X}{pool:04X}{:04X}\n", list.len());
+    for card in list {
+        text += &format!("{card:02X}\n");
+    }
+    text.into_bytes()
+}
+
+/// Each frame on any card.
+pub fn random_list(random: &mut Random, cards: usize, frames: usize) -> Vec<usize> {
+    (0..frames).map(|_| random.below(cards)).collect()
+}
+
+/// Blocks of frames on one card, the cards in turn.
+pub fn list_in_blocks(cards: usize, frames: usize, block: usize) -> Vec<usize> {
+    (0..frames).map(|position| position / block % cards).collect()
+}
+
+/// A ticket that is accepted: mostly a short one with a small pool.
+fn any_ticket(random: &mut Random) -> Vec<u8> {
+    let cards = 1 + random.below(MAX_CARDS);
+    let pool = 1 + if random.below(2) == 0 {
+        random.below(8)
+    } else {
+        random.below(MAX_POOL)
+    };
+    let frames = if random.below(64) == 0 {
+        random.below(MAX_FRAMES + 1)
+    } else {
+        random.below(60)
+    };
+    let used = 1 + random.below(cards);
+    let list = random_list(random, used, frames);
+    ticket(random.below(3), cards, pool, &list)
+}
+
+/// A ticket that is accepted, or one time in three a damaged one.
+pub fn mixed_ticket(random: &mut Random) -> Vec<u8> {
+    let mut text = any_ticket(random);
+    if random.below(3) == 0 {
+        for _ in 0..1 + random.below(3) {
+            damage(random, &mut text);
+        }
+    }
+    text
+}
+
+/// Changes a byte, cuts a part off, adds a byte, or leaves no ticket at all.
+fn damage(random: &mut Random, text: &mut Vec<u8>) {
+    const BYTES: &[u8] = b"0123456789ABCDEFGabf/:@ \r\n";
+    let any_byte = BYTES[random.below(BYTES.len())];
+    match random.below(6) {
+        0 => text.truncate(random.below(text.len() + 1)),
+        1 => text.push(any_byte),
+        2 => text.insert(random.below(text.len() + 1), any_byte),
+        3 if random.below(8) == 0 => *text = (0..random.below(40)).map(|_| random.below(256) as u8).collect(),
+        4 if text.len() >= 14 => text[random.below(14)] = any_byte,
+        _ if !text.is_empty() => {
+            let place = random.below(text.len());
+            text[place] = any_byte;
+        }
+        _ => {}
+    }
+}
+
+/// Plans made from a good one: itself; some cycles changed; the cycles spread up to 65,535; each frame in a cycle of its
+/// own, from the first cycle, from the second, and up to the last; small numbers; any numbers; and one of another length.
+pub fn plans(random: &mut Random, good: &[u16]) -> Vec<Vec<u16>> {
+    let frames = good.len();
+    let mut changed = good.to_vec();
+    for _ in 0..random.below(4).min(frames) {
+        changed[random.below(frames)] = random.below(frames + 2) as u16;
+    }
+    let factor = u16::MAX / good.iter().max().copied().unwrap_or(0).max(1);
+    let spread = changed.iter().map(|cycle| cycle.wrapping_mul(factor)).collect();
+    let one_by_one = |first: usize| (first..first + frames).map(|cycle| cycle as u16).collect();
+    let few = 2 + random.below(frames + 2);
+    let small = (0..frames).map(|_| random.below(few) as u16).collect();
+    let any = (0..frames).map(|_| random.below(65_536) as u16).collect();
+    let longer = vec![1; frames + 1];
+    let [first, second, last] = [1, 2, 65_536 - frames].map(one_by_one);
+    vec![good.to_vec(), changed, spread, first, second, last, small, any, longer]
+}

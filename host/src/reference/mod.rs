@@ -1,0 +1,150 @@
+//! The calls a second time, written from document 01 alone and close to its words. It is simple rather than fast.
+//! Each answer is the whole struct of the C call, so that the zeros beside a refusal are compared too.
+//! Edition 1 of the ticket only.
+
+mod checker;
+mod dock;
+mod print;
+mod saver;
+mod schedule;
+mod ticket;
+
+pub use saver::Saver;
+
+use crate::raw::{CheckAnswer, CountsAnswer, Cycle, Part, PlanAnswer, Position, RunAnswer, TicketAnswer, NO_VERDICT};
+use ticket::Ticket;
+
+/// "Tickets: 1 to 6, then line by line 7 before 8, then 9."
+pub fn parse(ticket: &[u8]) -> TicketAnswer {
+    match Ticket::read(ticket) {
+        Ok(read) => TicketAnswer {
+            refusal: 0,
+            edition: read.edition,
+            mode: read.mode,
+            cards: read.cards,
+            pool: read.pool,
+            frames: read.list.len() as u16,
+        },
+        Err(refusal) => TicketAnswer {
+            refusal,
+            edition: 0,
+            mode: 0,
+            cards: 0,
+            pool: 0,
+            frames: 0,
+        },
+    }
+}
+
+/// "Where a frame's line was wanted, the part is empty and the number is given by a call beside it."
+pub fn line(ticket: &[u8], position: Position) -> Part {
+    ticket::line(ticket, position).unwrap_or(Part { offset: 0, length: 0 })
+}
+
+/// The number beside `line`: the ticket's own refusals, "after that [...] 16".
+pub fn line_refusal(ticket: &[u8], position: Position) -> u8 {
+    ticket::line(ticket, position).err().unwrap_or(0)
+}
+
+/// "A count of frames for each of the 32 cards can be had for any accepted ticket."
+pub fn counts(ticket: &[u8]) -> CountsAnswer {
+    match Ticket::read(ticket) {
+        Ok(read) => CountsAnswer {
+            refusal: 0,
+            frames: read.counts(),
+        },
+        Err(refusal) => CountsAnswer {
+            refusal,
+            frames: [0; 32],
+        },
+    }
+}
+
+/// "A plan fills the first L places, and later places keep their content."
+pub fn plan(ticket: &[u8], out: &mut [u16]) -> PlanAnswer {
+    match plan_or_refusal(ticket, out) {
+        Ok(cycles) => PlanAnswer { refusal: 0, cycles },
+        Err(refusal) => PlanAnswer {
+            refusal,
+            cycles: Cycle(0),
+        },
+    }
+}
+
+/// The ticket's own refusals, "after that 10": the plan buffer has fewer than L places.
+fn plan_or_refusal(ticket: &[u8], out: &mut [u16]) -> Result<Cycle, u8> {
+    let read = Ticket::read(ticket)?;
+    let places = out.get_mut(..read.list.len()).ok_or(10)?;
+    let schedule = schedule::of_ticket(&read);
+    places.copy_from_slice(&schedule.cycles);
+    Ok(Cycle(schedule.length))
+}
+
+/// The text of the printing program, or nothing where the buffer has no room for all of it (the header's rule).
+pub fn print(ticket: &[u8], out: &mut [u8]) -> usize {
+    let text = match Ticket::read(ticket) {
+        Ok(read) => print::plan(&read.list, &schedule::of_ticket(&read)),
+        Err(refusal) => print::refusal(refusal),
+    };
+    match out.get_mut(..text.len()) {
+        Some(places) => {
+            places.copy_from_slice(&text);
+            text.len()
+        }
+        None => 0,
+    }
+}
+
+/// "Beside a refusal's number, other numbers of the answer are 0."
+pub fn check(ticket: &[u8], plan: &[u16]) -> CheckAnswer {
+    check_or_refusal(ticket, plan).unwrap_or_else(|refusal| CheckAnswer {
+        refusal,
+        verdict: NO_VERDICT,
+        position: Position(0),
+        cycles: Cycle(0),
+        peak: 0,
+    })
+}
+
+/// The ticket's own refusals, "after that [...] 12 before 11".
+fn check_or_refusal(ticket: &[u8], plan: &[u16]) -> Result<CheckAnswer, u8> {
+    let read = Ticket::read(ticket)?;
+    if read.mode == ticket::SAVE_AND_KEEP {
+        return Err(12);
+    }
+    if plan.len() != read.list.len() {
+        return Err(11);
+    }
+    Ok(checker::check(&read, plan))
+}
+
+/// "Beside a refusal's number, other numbers of the answer are 0."
+pub fn run_plan(ticket: &[u8], plan: &[u16]) -> RunAnswer {
+    run_or_refusal(ticket, plan).unwrap_or_else(|refusal| RunAnswer {
+        refusal,
+        broken: false,
+        complete: false,
+        delivered: 0,
+        ended: Cycle(0),
+        needed: Cycle(0),
+        peak: 0,
+    })
+}
+
+/// The ticket's own refusals, then 11: a plan "has not exactly L cycles". The mode is not looked at.
+fn run_or_refusal(ticket: &[u8], plan: &[u16]) -> Result<RunAnswer, u8> {
+    let read = Ticket::read(ticket)?;
+    if plan.len() != read.list.len() {
+        return Err(11);
+    }
+    let run = dock::run_plan(&read.list, read.pool.into(), plan);
+    Ok(RunAnswer {
+        refusal: 0,
+        broken: run.broken,
+        complete: run.needed.is_some(),
+        delivered: run.delivered,
+        ended: Cycle(run.ended),
+        needed: Cycle(run.needed.unwrap_or(0)),
+        peak: run.peak,
+    })
+}

@@ -1,0 +1,148 @@
+//! No call reads or writes beside the memory lent to it. Each lent piece ends right before a page that nobody may
+//! touch, or starts right behind one, so that a step outside ends the test program.
+
+use dockplan::{reference, Position, Refusal};
+use std::ffi::c_void;
+use std::ptr::null_mut;
+
+const PAGE: usize = 4096;
+const NOTHING_ALLOWED: i32 = 0;
+const READ_AND_WRITE: i32 = 3;
+const PRIVATE_AND_ANONYMOUS: i32 = 0x22;
+
+extern "C" {
+    fn mmap(address: *mut c_void, bytes: usize, allowed: i32, flags: i32, file: i32, offset: i64) -> *mut c_void;
+    fn mprotect(address: *mut c_void, bytes: usize, allowed: i32) -> i32;
+    fn munmap(address: *mut c_void, bytes: usize) -> i32;
+}
+
+/// Pages between two that nobody may touch.
+struct Guarded {
+    start: *mut u8,
+    pages: usize,
+}
+
+#[derive(Clone, Copy)]
+enum Side {
+    Front,
+    Back,
+}
+
+impl Guarded {
+    fn new(pages: usize) -> Guarded {
+        let all = (pages + 2) * PAGE;
+        // SAFETY: a new mapping, and then its inner pages.
+        unsafe {
+            let start = mmap(null_mut(), all, NOTHING_ALLOWED, PRIVATE_AND_ANONYMOUS, -1, 0).cast::<u8>();
+            assert!(start as isize != -1);
+            assert_eq!(mprotect(start.add(PAGE).cast(), pages * PAGE, READ_AND_WRITE), 0);
+            Guarded { start, pages }
+        }
+    }
+
+    /// A copy of the content at the front or the back of the pages.
+    fn copy<T: Copy>(&mut self, side: Side, content: &[T]) -> &mut [T] {
+        let bytes = size_of_val(content);
+        assert!(bytes <= self.pages * PAGE);
+        let offset = match side {
+            Side::Front => PAGE,
+            Side::Back => PAGE + self.pages * PAGE - bytes,
+        };
+        // SAFETY: the piece is within the inner pages, pages are aligned, and `self` is borrowed as long as it is.
+        unsafe {
+            let place = self.start.add(offset).cast::<T>();
+            place.copy_from_nonoverlapping(content.as_ptr(), content.len());
+            std::slice::from_raw_parts_mut(place, content.len())
+        }
+    }
+}
+
+impl Drop for Guarded {
+    fn drop(&mut self) {
+        // SAFETY: the mapping of `new`.
+        unsafe { munmap(self.start.cast(), (self.pages + 2) * PAGE) };
+    }
+}
+
+/// Tickets in each mode, with each length that they can be cut to.
+#[test]
+fn cut_tickets() {
+    let mut memory = Memory::new();
+    for mode in 0..3 {
+        let whole = format!("01{mode:02X}0200020006\n00\n00\n01\n00\n01\n01\n\n");
+        for length in 0..=whole.len() {
+            memory.call_everything(&whole.as_bytes()[..length], &[1, 2, 2, 3, 3, 4]);
+        }
+    }
+}
+
+/// The longest ticket in each mode.
+#[test]
+fn longest_tickets() {
+    let mut memory = Memory::new();
+    let cycles: Vec<u16> = (1..=4096).collect();
+    for mode in 0..3 {
+        let mut ticket = format!("01{mode:02X}2004001000\n").into_bytes();
+        (0..4096).for_each(|position| ticket.extend(format!("{:02X}\n", position % 32).bytes()));
+        memory.call_everything(&ticket, &cycles);
+    }
+}
+
+/// Memory for a ticket, for a plan and for a text.
+struct Memory {
+    ticket: Guarded,
+    plan: Guarded,
+    text: Guarded,
+}
+
+impl Memory {
+    fn new() -> Memory {
+        Memory {
+            ticket: Guarded::new(4),
+            plan: Guarded::new(2),
+            text: Guarded::new(12),
+        }
+    }
+
+    /// Every call with slices, and buffers of L places and fewer, on both sides.
+    fn call_everything(&mut self, ticket: &[u8], cycles: &[u16]) {
+        for side in [Side::Front, Side::Back] {
+            let lent = self.ticket.copy(side, ticket);
+            assert_eq!(refusal(dockplan::parse(lent)), reference::parse(ticket).refusal);
+            assert_eq!(refusal(dockplan::counts(lent)), reference::counts(ticket).refusal);
+            for position in [0, cycles.len() - 1, cycles.len(), 65_535] {
+                let position = Position(position as u16);
+                let line = dockplan::line(lent, position);
+                assert_eq!(refusal(line), reference::line_refusal(ticket, position));
+            }
+            for places in [0, 1, cycles.len() - 1, cycles.len()] {
+                let plan = self.plan.copy(side, &cycles[..places]);
+                let mut expected = plan.to_vec();
+                assert_eq!(
+                    refusal(dockplan::check(lent, plan)),
+                    reference::check(ticket, plan).refusal
+                );
+                assert_eq!(
+                    refusal(dockplan::run_plan(lent, plan)),
+                    reference::run_plan(ticket, plan).refusal
+                );
+                assert_eq!(
+                    refusal(dockplan::plan(lent, plan)),
+                    reference::plan(ticket, &mut expected).refusal
+                );
+                assert_eq!(plan, expected);
+            }
+            for places in [0, 4, 5, 4 + 11 * cycles.len(), 5 + 11 * cycles.len()] {
+                let text = self.text.copy(side, &vec![0xA5; places]);
+                let mut expected = text.to_vec();
+                assert_eq!(dockplan::print(lent, text), reference::print(ticket, &mut expected));
+                assert_eq!(text, expected);
+            }
+        }
+    }
+}
+
+/// The number of a refusal, 0 for none.
+fn refusal<T>(answer: Result<T, Refusal>) -> u8 {
+    answer.err().map_or(0, |Refusal(number)| number)
+}

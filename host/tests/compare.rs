@@ -1,0 +1,65 @@
+//! Every call of the library beside the reference, on many tickets, plans and saver calls from a fixed seed.
+//! The tally at the end says how much was compared, and asserts that no refusal and no verdict was left out.
+
+mod generate;
+mod library;
+mod same;
+mod tally;
+
+use generate::{plans, tickets, Random};
+use std::thread;
+use tally::Tally;
+
+/// The comparison is split in two parts, for two cores.
+const PARTS: u64 = 2;
+const TICKETS: u64 = 120_000 / PARTS;
+const SAVER_SEQUENCES: u64 = 3_000 / PARTS;
+const FULL_SAVERS: u64 = 20 / PARTS;
+
+#[test]
+fn every_call_answers_as_the_reference() {
+    let mut total = Tally::default();
+    thread::scope(|scope| {
+        let parts: Vec<_> = (0..PARTS)
+            .map(|part| scope.spawn(move || compare_part(part + 1)))
+            .collect();
+        for part in parts {
+            total.add(&part.join().expect("a comparison failed"));
+        }
+    });
+    total.print();
+    total.assert_not_vacuous();
+}
+
+fn compare_part(seed: u64) -> Tally {
+    let mut random = Random::new(seed);
+    let mut tally = Tally::default();
+    for _ in 0..TICKETS {
+        let ticket = tickets::any(&mut random);
+        compare_ticket(&mut random, &ticket, &mut tally);
+    }
+    for _ in 0..SAVER_SEQUENCES {
+        same::saving::compare_any_calls(&mut random, &mut tally);
+    }
+    for _ in 0..FULL_SAVERS {
+        same::saving::compare_full_saver(&mut random, &mut tally);
+    }
+    tally
+}
+
+/// Every call for one ticket.
+fn compare_ticket(random: &mut Random, ticket: &[u8], tally: &mut Tally) {
+    let header = same::reading::compare(random, ticket, tally);
+    let own = same::planning::compare(random, ticket, header.frames.into(), tally);
+    if header.refusal == 0 {
+        same::foreign::compare(random, ticket, &header, &own, tally);
+        same::saving::compare_list(ticket, tally);
+    } else {
+        same::foreign::compare_refused(random, ticket);
+    }
+    if random.once_in(16) {
+        let plan = plans::foreign(random, &own);
+        same::wrappers::compare(ticket, header.frames, &plan, tally);
+        same::wrappers::compare_saver(random, &header, tally);
+    }
+}

@@ -1,0 +1,193 @@
+//! The edges of the C interface: null pointers with a count of 0, lent memory that must stay as it is, calls from two
+//! threads at once, and what the archive needs from outside.
+
+use dockplan::raw::*;
+use dockplan::reference;
+use std::process::Command;
+use std::ptr::{null, null_mut};
+use std::thread;
+
+const NO_FRAMES: &[u8] = b"01000200020000\n";
+const ONE_FRAME: &[u8] = b"01000200020001\n01\n";
+const EXAMPLE: &[u8] = b"01000200020003\n00\n00\n01\n";
+
+/// "With a count of 0 any pointer will do, NULL too": the answers for no ticket.
+#[test]
+fn null_is_an_empty_ticket() {
+    let mut plan = [0xA5A5; 4];
+    let mut text = [0xA5; 8];
+    let mut expected_text = text;
+    unsafe {
+        assert_eq!(dockplan_parse(null(), 0), reference::parse(&[]));
+        assert_eq!(dockplan_line(null(), 0, Position(0)), reference::line(&[], Position(0)));
+        assert_eq!(
+            dockplan_line_refusal(null(), 0, Position(0)),
+            reference::line_refusal(&[], Position(0))
+        );
+        assert_eq!(dockplan_counts(null(), 0), reference::counts(&[]));
+        assert_eq!(
+            dockplan_plan(null(), 0, plan.as_mut_ptr(), plan.len()),
+            reference::plan(&[], &mut [0; 4])
+        );
+        assert_eq!(dockplan_plan(null(), 0, null_mut(), 0), reference::plan(&[], &mut []));
+        let bytes = dockplan_print(null(), 0, text.as_mut_ptr(), text.len());
+        assert_eq!(bytes, reference::print(&[], &mut expected_text));
+        assert_eq!(dockplan_print(null(), 0, null_mut(), 0), reference::print(&[], &mut []));
+        assert_eq!(
+            dockplan_check(null(), 0, plan.as_ptr(), plan.len()),
+            reference::check(&[], &plan)
+        );
+        assert_eq!(dockplan_check(null(), 0, null(), 0), reference::check(&[], &[]));
+        assert_eq!(
+            dockplan_run_plan(null(), 0, plan.as_ptr(), plan.len()),
+            reference::run_plan(&[], &plan)
+        );
+        assert_eq!(dockplan_run_plan(null(), 0, null(), 0), reference::run_plan(&[], &[]));
+    }
+    assert_eq!(plan, [0xA5A5; 4]);
+    assert_eq!(text, expected_text);
+}
+
+/// The same for plans and text: a null buffer has no places, and a null plan has no cycles.
+#[test]
+fn null_is_an_empty_plan() {
+    for ticket in [NO_FRAMES, ONE_FRAME, EXAMPLE] {
+        let (start, bytes) = (ticket.as_ptr(), ticket.len());
+        unsafe {
+            assert_eq!(
+                dockplan_plan(start, bytes, null_mut(), 0),
+                reference::plan(ticket, &mut [])
+            );
+            assert_eq!(
+                dockplan_print(start, bytes, null_mut(), 0),
+                reference::print(ticket, &mut [])
+            );
+            assert_eq!(dockplan_check(start, bytes, null(), 0), reference::check(ticket, &[]));
+            assert_eq!(
+                dockplan_run_plan(start, bytes, null(), 0),
+                reference::run_plan(ticket, &[])
+            );
+        }
+    }
+}
+
+/// The ticket and the checked plan are lent to be read. They stay as they are, wherever in memory they start.
+#[test]
+fn inputs_stay_as_they_are() {
+    for shift in 0..8 {
+        let mut memory = vec![b'0'; shift];
+        memory.extend(EXAMPLE);
+        let before = memory.clone();
+        let mut plan: [u16; 3] = [2, 1, 2];
+        let mut out = [0; 3];
+        let mut text = [0; 64];
+        unsafe {
+            let ticket = memory.as_mut_ptr().add(shift).cast_const();
+            let cycles = plan.as_mut_ptr().cast_const();
+            assert_eq!(dockplan_parse(ticket, EXAMPLE.len()), reference::parse(EXAMPLE));
+            dockplan_line(ticket, EXAMPLE.len(), Position(1));
+            dockplan_line_refusal(ticket, EXAMPLE.len(), Position(1));
+            dockplan_counts(ticket, EXAMPLE.len());
+            dockplan_plan(ticket, EXAMPLE.len(), out.as_mut_ptr(), out.len());
+            dockplan_print(ticket, EXAMPLE.len(), text.as_mut_ptr(), text.len());
+            dockplan_check(ticket, EXAMPLE.len(), cycles, plan.len());
+            dockplan_run_plan(ticket, EXAMPLE.len(), cycles, plan.len());
+        }
+        assert_eq!(memory, before);
+        assert_eq!(plan, [2, 1, 2]);
+    }
+}
+
+/// Two threads call at the same time, and each gets the answers for its own ticket.
+#[test]
+fn two_threads_do_not_meet() {
+    thread::scope(|scope| {
+        for (mode, m) in [("00", 3), ("01", 40)] {
+            scope.spawn(move || call_again_and_again(mode, m));
+        }
+    });
+}
+
+fn call_again_and_again(mode: &str, m: u16) {
+    let list: Vec<u8> = (0..300u32).map(|position| (position * position % 7) as u8).collect();
+    let mut ticket = format!("01{mode}07{m:04X}{:04X}\n", list.len()).into_bytes();
+    list.iter()
+        .for_each(|card| ticket.extend(format!("{card:02X}\n").bytes()));
+    let mut plan = vec![0; list.len()];
+    let mut text = vec![0; 5 + 11 * list.len()];
+    let plan_answer = reference::plan(&ticket, &mut plan);
+    reference::print(&ticket, &mut text);
+    for _ in 0..300 {
+        let mut out = vec![0; plan.len()];
+        let mut printed = vec![0; text.len()];
+        assert_eq!(dockplan::plan(&ticket, &mut out), Ok(plan_answer.cycles));
+        assert_eq!(out, plan);
+        assert_eq!(dockplan::print(&ticket, &mut printed), text.len());
+        assert_eq!(printed, text);
+        let checked = unsafe { dockplan_check(ticket.as_ptr(), ticket.len(), plan.as_ptr(), plan.len()) };
+        assert_eq!(checked, reference::check(&ticket, &plan));
+        let run = unsafe { dockplan_run_plan(ticket.as_ptr(), ticket.len(), plan.as_ptr(), plan.len()) };
+        assert_eq!(run, reference::run_plan(&ticket, &plan));
+        save_all(7, m, &list);
+    }
+}
+
+fn save_all(cards: u8, m: u16, list: &[u8]) {
+    let mut record = unsafe { dockplan_saver_new(cards, m) }.saver;
+    let (_, mut saver) = reference::Saver::new(cards, m);
+    for &card in list {
+        let answer = unsafe { dockplan_saver_save(record, card) };
+        assert_eq!(answer, saver.save(card));
+        record = answer.saver;
+    }
+}
+
+/// "Beside the calls below it needs memcpy and memset, and nothing else": no allocation and no other call out.
+#[test]
+fn archive_needs_memcpy_and_memset_alone() {
+    let needed = names("-u");
+    assert!(
+        needed.iter().all(|name| name == "memcpy" || name == "memset"),
+        "the archive needs {needed:?}"
+    );
+}
+
+/// The archive asked above is the one with the calls.
+#[test]
+fn archive_has_the_calls() {
+    let defined = names("--defined-only");
+    for call in [
+        "parse",
+        "line",
+        "line_refusal",
+        "counts",
+        "plan",
+        "print",
+        "check",
+        "run_plan",
+    ] {
+        assert!(defined.contains(&format!("dockplan_{call}")), "{call}");
+    }
+    for call in ["new", "save", "close"] {
+        assert!(defined.contains(&format!("dockplan_saver_{call}")), "{call}");
+    }
+}
+
+/// The names that nm lists for the archive. A line with a colon at its end names a member.
+fn names(option: &str) -> Vec<String> {
+    let output = Command::new("nm")
+        .args([option, env!("DOCKPLAN_ARCHIVE")])
+        .output()
+        .unwrap();
+    assert!(
+        output.status.success(),
+        "nm: {}",
+        String::from_utf8_lossy(&output.stderr)
+    );
+    let text = String::from_utf8(output.stdout).unwrap();
+    let lines = text.lines().filter(|line| !line.ends_with(':'));
+    lines
+        .filter_map(|line| line.split_whitespace().last())
+        .map(String::from)
+        .collect()
+}

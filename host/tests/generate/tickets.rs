@@ -1,0 +1,239 @@
+//! Tickets: valid ones of every size, fields at their limits and one past, damaged ones, and bytes that are no ticket.
+
+use super::Random;
+
+/// A ticket's numbers before they are written down. They may be out of range.
+struct Fields {
+    edition: usize,
+    mode: usize,
+    cards: usize,
+    pool: usize,
+    frames: usize,
+    list: Vec<usize>,
+}
+
+/// Any bytes at all, and most often something close to a ticket.
+pub fn any(random: &mut Random) -> Vec<u8> {
+    match random.below(20) {
+        0..=10 => valid(random),
+        11..=13 => written(&with_field_at_limit(random)),
+        14..=16 => damaged(random),
+        17 => with_bad_card(random),
+        18 => with_bytes_after(random),
+        _ => no_ticket(random),
+    }
+}
+
+/// A ticket that is accepted.
+fn valid(random: &mut Random) -> Vec<u8> {
+    let frames = length(random);
+    written(&fields(random, frames))
+}
+
+fn fields(random: &mut Random, frames: usize) -> Fields {
+    let cards = if random.once_in(4) {
+        random.between(1, 32)
+    } else {
+        random.pick(&[1, 2, 3, 4, 8, 31, 32])
+    };
+    let pool = pool(random, frames);
+    let list = list(random, cards, frames);
+    Fields {
+        edition: 1,
+        mode: random.below(3),
+        cards,
+        pool,
+        frames,
+        list,
+    }
+}
+
+/// Mostly short, sometimes long. The two longest lengths are rare, because they take the most time.
+fn length(random: &mut Random) -> usize {
+    match random.below(2000) {
+        0..=99 => 0,
+        100..=1399 => random.between(1, 12),
+        1400..=1899 => random.between(13, 48),
+        1900..=1989 => random.between(49, 200),
+        1990..=1997 => random.between(201, 1100),
+        1998 => random.between(1101, 4095),
+        _ => 4096,
+    }
+}
+
+/// Small pools, pools around L, and the largest ones.
+fn pool(random: &mut Random, frames: usize) -> usize {
+    let wanted = match random.below(10) {
+        0 => 1,
+        1 | 2 => 2,
+        3 => 3,
+        4 => frames,
+        5 => frames.saturating_sub(1),
+        6 => frames + 1,
+        7 => random.between(1, frames + 1),
+        8 => random.pick(&[1023, 1024]),
+        _ => random.between(1, 40),
+    };
+    wanted.clamp(1, 1024)
+}
+
+/// The cards of a list: random, one card, round robin, blocked, or skewed to the low cards.
+fn list(random: &mut Random, cards: usize, frames: usize) -> Vec<usize> {
+    let shape = random.below(5);
+    let one_card = random.below(cards);
+    let block = random.between(1, 9);
+    (0..frames)
+        .map(|position| match shape {
+            0 => random.below(cards),
+            1 => one_card,
+            2 => position % cards,
+            3 => position / block % cards,
+            _ => random.below(cards).min(random.below(cards)).min(random.below(cards)),
+        })
+        .collect()
+}
+
+/// The ticket's text. Each number has its digits, even where it is out of range.
+fn written(fields: &Fields) -> Vec<u8> {
+    let Fields {
+        edition,
+        mode,
+        cards,
+        pool,
+        frames,
+        list,
+    } = fields;
+    let mut text = format!("{edition:02X}{mode:02X}{cards:02X}{pool:04X}{frames:04X}\n");
+    for card in list {
+        text += &format!("{card:02X}\n");
+    }
+    text.into_bytes()
+}
+
+/// One field, or two for the order of the refusals, at a limit or one past it.
+fn with_field_at_limit(random: &mut Random) -> Fields {
+    let frames = random.below(12);
+    let mut fields = fields(random, frames);
+    for _ in 0..random.between(1, 2) {
+        match random.below(6) {
+            0 => fields.edition = random.pick(&[0, 2, 0x10, 0x11, 0xFF]),
+            1 => fields.mode = random.pick(&[0, 2, 3, 3, 4, 0x10, 0xFF]),
+            2 => fields.cards = random.pick(&[0, 1, 32, 33, 33, 34, 0xFF]),
+            3 => fields.pool = random.pick(&[0, 0, 1, 1024, 1025, 1025, 1026, 0xFFFF]),
+            4 => fields.frames = random.pick(&[0, 1, 4095, 4096, 4097, 4098, 0x1FFF, 0xFFFF]),
+            _ => {
+                let more = random.between(0, 4);
+                let last = fields.list.len().saturating_sub(random.below(2));
+                fields.frames = last + more;
+            }
+        }
+    }
+    fields
+}
+
+/// A valid ticket with one to three bytes changed, inserted or removed, or cut short.
+fn damaged(random: &mut Random) -> Vec<u8> {
+    let mut ticket = valid(random);
+    for _ in 0..random.between(1, 3) {
+        damage(random, &mut ticket);
+    }
+    ticket
+}
+
+fn damage(random: &mut Random, ticket: &mut Vec<u8>) {
+    if ticket.is_empty() {
+        return;
+    }
+    // Half of the damage is done near the header, which is a small part of a long ticket.
+    let near = if random.once_in(2) {
+        ticket.len().min(24)
+    } else {
+        ticket.len()
+    };
+    let place = random.below(near);
+    match random.below(8) {
+        0 => ticket[place] ^= 1 << random.below(8),
+        1 => ticket[place] = near_miss(random),
+        2 => ticket[place] = digit(random),
+        3 => ticket.insert(place, near_miss(random)),
+        4 => ticket.insert(place, digit(random)),
+        5 => _ = ticket.remove(place),
+        6 => ticket.truncate(place),
+        _ => change_ends(random, ticket),
+    }
+}
+
+/// Bytes that a careless reader may take for a digit or an end byte.
+fn near_miss(random: &mut Random) -> u8 {
+    random.pick(b"/:@G`agAFaf\n\r\t \0\x0B\x8A\xB0\xFF")
+}
+
+fn digit(random: &mut Random) -> u8 {
+    random.pick(b"0123456789ABCDEF")
+}
+
+/// All letters in lower case, or other end bytes.
+fn change_ends(random: &mut Random, ticket: &mut Vec<u8>) {
+    match random.below(4) {
+        0 => ticket.make_ascii_lowercase(),
+        1 => ticket
+            .iter_mut()
+            .filter(|byte| **byte == b'\n')
+            .for_each(|byte| *byte = b'\r'),
+        2 => ticket.retain(|&byte| byte != b'\n'),
+        _ => _ = ticket.pop(),
+    }
+}
+
+/// A card number that is not below cards, on one line or two, and sometimes a damaged line before or after it.
+fn with_bad_card(random: &mut Random) -> Vec<u8> {
+    let frames = random.between(1, 20);
+    let mut fields = fields(random, frames);
+    for _ in 0..random.between(1, 2) {
+        let position = random.below(frames);
+        fields.list[position] = random.pick(&[fields.cards, fields.cards, fields.cards + 1, 32, 0x80, 0xFF]);
+    }
+    let mut ticket = written(&fields);
+    if random.once_in(3) {
+        damage(random, &mut ticket);
+    }
+    ticket
+}
+
+/// Bytes after the last line: one byte, a whole line, or many bytes.
+fn with_bytes_after(random: &mut Random) -> Vec<u8> {
+    let mut ticket = valid(random);
+    match random.below(4) {
+        0 => ticket.push(near_miss(random)),
+        1 => ticket.extend(b"00\n"),
+        2 => ticket.push(b'\n'),
+        _ => {
+            let more = if random.once_in(50) {
+                70_000
+            } else {
+                random.between(1, 300)
+            };
+            ticket.extend((0..more).map(|_| random.byte()));
+        }
+    }
+    ticket
+}
+
+/// Random bytes, random digits, or a header line of random digits with random lines behind it.
+fn no_ticket(random: &mut Random) -> Vec<u8> {
+    let bytes = random.below(80);
+    match random.below(4) {
+        0 => (0..bytes).map(|_| random.byte()).collect(),
+        1 => (0..bytes).map(|_| digit(random)).collect(),
+        2 => (0..bytes)
+            .map(|place| if place % 3 == 2 { b'\n' } else { digit(random) })
+            .collect(),
+        _ => {
+            let mut ticket: Vec<u8> = (0..14).map(|_| digit(random)).collect();
+            ticket[..2].copy_from_slice(b"01");
+            ticket.push(b'\n');
+            ticket.extend((0..bytes).map(|place| if place % 3 == 2 { b'\n' } else { digit(random) }));
+            ticket
+        }
+    }
+}

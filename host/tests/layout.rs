@@ -1,0 +1,110 @@
+//! The structs of `raw` beside the header: their layout by hand from the C ABI of x86-64, and as the C compiler says.
+//! A declaration that differs from the header fails here.
+
+use dockplan::raw::*;
+use std::io::Write;
+use std::mem::{offset_of, size_of};
+use std::process::{Command, Stdio};
+
+/// Each 16-bit number stands at an even offset, each size_t at a multiple of 8.
+const _: () = {
+    assert!(size_of::<Cycle>() == 2 && size_of::<Position>() == 2);
+    assert!(size_of::<TicketAnswer>() == 8);
+    assert!(size_of::<Part>() == 16);
+    assert!(size_of::<CountsAnswer>() == 66 && offset_of!(CountsAnswer, frames) == 2);
+    assert!(size_of::<PlanAnswer>() == 4 && offset_of!(PlanAnswer, cycles) == 2);
+    assert!(size_of::<CheckAnswer>() == 8 && offset_of!(CheckAnswer, position) == 2);
+    assert!(size_of::<RunAnswer>() == 12 && offset_of!(RunAnswer, delivered) == 4);
+    assert!(size_of::<Saver>() == 3084 && offset_of!(Saver, card) == 11 && offset_of!(Saver, position) == 1036);
+    assert!(size_of::<SaverAnswer>() == 3152 && offset_of!(SaverAnswer, saver) == 68);
+};
+
+/// C assertions that a struct of the header has the size of ours, and each field the place and size of ours.
+macro_rules! same_layout {
+    ($c:ident is $rust:ident $(with $($field:ident)*)?) => {
+        [
+            format!("_Static_assert(sizeof({0}) == {1}, \"{0}\");\n", stringify!($c), size_of::<$rust>()),
+            $($(same_field(
+                stringify!($c),
+                stringify!($field),
+                offset_of!($rust, $field),
+                field_size(|answer: &$rust| &answer.$field),
+            )),*)?
+        ]
+        .concat()
+    };
+}
+
+fn same_field(c: &str, field: &str, offset: usize, size: usize) -> String {
+    let place = format!("_Static_assert(offsetof({c}, {field}) == {offset}, \"{c}.{field}\");\n");
+    let extent = format!("_Static_assert(sizeof((({c} *)0)->{field}) == {size}, \"{c}.{field}\");\n");
+    place + &extent
+}
+
+/// The size of the field that `_get` gives.
+fn field_size<S, F>(_get: fn(&S) -> &F) -> usize {
+    size_of::<F>()
+}
+
+#[test]
+fn structs_are_those_of_the_header() {
+    compile(&[
+        same_layout!(dockplan_cycle is Cycle),
+        same_layout!(dockplan_position is Position),
+        same_layout!(dockplan_ticket_answer is TicketAnswer with refusal edition mode cards pool frames),
+        same_layout!(dockplan_part is Part with offset length),
+        same_layout!(dockplan_counts_answer is CountsAnswer with refusal frames),
+        same_layout!(dockplan_plan_answer is PlanAnswer with refusal cycles),
+        same_layout!(dockplan_check_answer is CheckAnswer with refusal verdict position cycles peak),
+        same_layout!(dockplan_run_answer is RunAnswer with refusal broken complete delivered ended needed peak),
+        same_layout!(dockplan_saver is Saver with cards pool taken made waiting closing card position),
+        same_layout!(dockplan_saver_answer is SaverAnswer with refusal cycle written saver),
+    ]);
+}
+
+#[test]
+fn constants_are_those_of_the_header() {
+    let constants = [
+        ("NO_VERDICT", usize::from(NO_VERDICT)),
+        ("VALID", usize::from(VALID)),
+        ("NO_CYCLE", usize::from(NO_CYCLE)),
+        ("SHARED_CARD", usize::from(SHARED_CARD)),
+        ("OVERFULL", usize::from(OVERFULL)),
+        ("NONE", usize::from(NONE)),
+        ("MAX_CARDS", 32),
+        ("MAX_POOL", 1024),
+        ("MAX_FRAMES", 4096),
+        ("MAX_TICKET_BYTES", 15 + 3 * 4096),
+        ("MAX_PRINTED_BYTES", 5 + 11 * 4096),
+        ("READ", 0),
+        ("SAVE", 1),
+        ("SAVE_AND_KEEP", 2),
+    ];
+    compile(&constants.map(|(name, value)| format!("_Static_assert(DOCKPLAN_{name} == {value}, \"{name}\");\n")));
+}
+
+#[test]
+fn the_header_is_for_c_and_cpp() {
+    for language in ["-std=c99 -x c", "-std=c11 -x c", "-std=c++11 -x c++"] {
+        compile_as(language, &[]);
+    }
+}
+
+/// The C compiler accepts the assertions.
+fn compile(assertions: &[String]) {
+    compile_as("-std=c11 -x c", assertions);
+}
+
+fn compile_as(language: &str, assertions: &[String]) {
+    let text = format!("#include \"dockplan.h\"\n{}", assertions.concat());
+    let mut compiler = Command::new("gcc")
+        .arg(concat!("-I", env!("CARGO_MANIFEST_DIR"), "/../include"))
+        .args("-Wall -Wextra -Wpedantic -Werror -fsyntax-only".split(' '))
+        .args(language.split(' '))
+        .arg("-")
+        .stdin(Stdio::piped())
+        .spawn()
+        .unwrap();
+    compiler.stdin.take().unwrap().write_all(text.as_bytes()).unwrap();
+    assert!(compiler.wait().unwrap().success(), "the header differs");
+}
