@@ -10,7 +10,7 @@ TICKET = examples/first.ticket
 LIBRARY = target/staticlib/libfirmware.a
 CARGO = cd host && CARGO_TARGET_DIR=../target/host cargo
 
-.PHONY: plan test examples program library firmware host bench
+.PHONY: plan test examples program firmware host bench
 
 plan: program
 	@target/bin/dockplan < $(TICKET)
@@ -29,16 +29,16 @@ examples: program
 program:
 	@out=$$(rt check dockplan 2>&1) || { echo "$$out"; exit 1; }
 
-# the same for the library
-library:
+# the same for the library, which is built again when a file of a crate has changed
+$(LIBRARY): crates.txt $(shell find crates -name '*.rt' -o -name '*.antt')
 	@out=$$(rt staticlib firmware 2>&1) || { echo "$$out"; exit 1; }
 
-firmware: library
+firmware: $(LIBRARY)
 	@$(CC) -std=c11 -O2 -Wall -Wextra -Iinclude examples/firmware.c $(LIBRARY) -o target/firmware
 	@target/firmware < $(TICKET)
 
-host: library
+host: $(LIBRARY)
 	@$(CARGO) test --release --offline --quiet -- --nocapture
 
-bench: library
+bench: $(LIBRARY)
 	@$(CARGO) run --release --offline --quiet --bin bench

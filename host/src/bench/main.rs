@@ -128,17 +128,16 @@ fn compare_answers(lists: &[List]) -> Result<(), String> {
 fn measure_row(measured: &Measured, list: &List) -> Row {
     let implementations: Vec<&Implementation> = [&LIBRARY].into_iter().chain(others()).collect();
     let mut work = Work::new(measured.mode, list);
-    let times = measure::nanoseconds(implementations.len(), |number| {
+    let times = measure::measure(implementations.len(), |number| {
         (measured.call)(implementations[number], &mut work)
     });
-    let a_frame: Vec<f64> = times.iter().map(|time| time / list.cards.len() as f64).collect();
-    let (c, rust) = a_frame[1..].split_at(C.len());
+    let frames = list.cards.len() as f64;
+    let numbers = 0..implementations.len();
     Row {
         name: measured.name,
         list: list.name,
-        library: a_frame[0],
-        c: c.to_vec(),
-        rust: rust[0],
+        nanoseconds: numbers.clone().map(|number| times.least(number) / frames).collect(),
+        ratios: numbers.skip(1).map(|other| times.ratio(0, other)).collect(),
         target: measured.target,
     }
 }

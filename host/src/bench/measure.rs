@@ -1,10 +1,11 @@
-//! The clock: how long a call takes, as the least of many runs, the implementations taken in turns.
+//! The clock. The implementations are taken in turns, in short runs, since a machine that others share is now faster, now
+//! slower: a ratio is taken within each turn.
 
 use std::time::Instant;
 
-/// Each implementation has this many runs, and a run takes about this long.
-pub const RUNS: usize = 80;
-const NANOSECONDS_A_RUN: f64 = 1_000_000.0;
+/// There are this many turns; in each, every implementation has one run of about this long.
+pub const TURNS: usize = 200;
+const NANOSECONDS_A_RUN: f64 = 250_000.0;
 
 /// Nanoseconds a call in one run.
 fn run(calls: usize, call: &mut dyn FnMut()) -> f64 {
@@ -27,16 +28,34 @@ fn calls_in_a_run(call: &mut dyn FnMut()) -> usize {
     }
 }
 
-/// Nanoseconds a call for each implementation, where `call` makes one call of the implementation with that number.
-pub fn nanoseconds(implementations: usize, mut call: impl FnMut(usize)) -> Vec<f64> {
+/// Nanoseconds a call in each turn, for each implementation.
+pub struct Times(Vec<Vec<f64>>);
+
+impl Times {
+    /// The least over all turns.
+    pub fn least(&self, number: usize) -> f64 {
+        self.0[number].iter().copied().fold(f64::INFINITY, f64::min)
+    }
+
+    /// The time of one implementation over that of another: the median of the ratios in each turn.
+    pub fn ratio(&self, number: usize, other: usize) -> f64 {
+        let turns = self.0[number].iter().zip(&self.0[other]);
+        let mut ratios: Vec<f64> = turns.map(|(own, other)| own / other).collect();
+        ratios.sort_by(f64::total_cmp);
+        ratios[ratios.len() / 2]
+    }
+}
+
+/// Measures, where `call` makes one call of the implementation with that number.
+pub fn measure(implementations: usize, mut call: impl FnMut(usize)) -> Times {
     let calls: Vec<usize> = (0..implementations)
         .map(|number| calls_in_a_run(&mut || call(number)))
         .collect();
-    let mut least = vec![f64::INFINITY; implementations];
-    for _ in 0..RUNS {
+    let mut times = vec![Vec::new(); implementations];
+    for _ in 0..TURNS {
         for number in 0..implementations {
-            least[number] = least[number].min(run(calls[number], &mut || call(number)));
+            times[number].push(run(calls[number], &mut || call(number)));
         }
     }
-    least
+    Times(times)
 }

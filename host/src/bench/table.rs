@@ -1,7 +1,7 @@
 //! The printed table, and the lines above it that say what was measured and how.
 
 use crate::implementations::Implementation;
-use crate::measure::RUNS;
+use crate::measure::TURNS;
 use std::fs::read_to_string;
 use std::process::Command;
 
@@ -15,25 +15,26 @@ pub enum Target {
     None,
 }
 
-/// Nanoseconds a frame for the library, for each C compiler and for Rust.
+/// Nanoseconds a frame for the library, for each C compiler and for Rust; and the library's time over each of the others.
 pub struct Row {
     pub name: &'static str,
     pub list: &'static str,
-    pub library: f64,
-    pub c: Vec<f64>,
-    pub rust: f64,
+    pub nanoseconds: Vec<f64>,
+    pub ratios: Vec<f64>,
     pub target: Target,
 }
 
 impl Row {
-    fn faster_c(&self) -> f64 {
-        self.c.iter().copied().fold(f64::INFINITY, f64::min)
+    /// The ratio to the faster C: the larger of those to each compiler. The last ratio is that to Rust.
+    fn to_faster_c(&self) -> f64 {
+        let compilers = self.ratios.len() - 1;
+        self.ratios[..compilers].iter().copied().fold(0.0, f64::max)
     }
 
     fn verdict(&self) -> String {
         let (target, holds) = match self.target {
-            Target::LikeC => ("1.10 of C", self.library <= 1.10 * self.faster_c()),
-            Target::HundredNanoseconds => ("100 ns", self.library < 100.0),
+            Target::LikeC => ("1.10 of C", self.to_faster_c() <= 1.10),
+            Target::HundredNanoseconds => ("100 ns", self.nanoseconds[0] < 100.0),
             Target::None => return "-".into(),
         };
         format!("{target}: {}", if holds { "holds" } else { "MISSED" })
@@ -83,9 +84,9 @@ pub fn print_head(c: &[Implementation]) {
         first_line("rustc")
     );
     println!("lists      4,096 frames over 32 cards; random: pool 192; blocks of 16 frames on one card: pool 1,024");
-    println!("times      nanoseconds a frame: the least of {RUNS} runs of about 1 ms, taken in turns; each call has the same ticket,");
+    println!("times      nanoseconds a frame: the least of {TURNS} runs of 0.25 ms, all taken in turns; each call has the same ticket,");
     println!("           and buffers are not cleared between calls");
-    println!("lib/...    the library's time over the other's; lib/C over the faster C");
+    println!("lib/...    the library's time over the other's, the median of the turns; lib/C over the faster C");
     println!();
     let names = c.iter().map(|implementation| implementation.name);
     let times = ["library"]
@@ -93,18 +94,13 @@ pub fn print_head(c: &[Implementation]) {
         .chain(names.clone())
         .chain(["Rust-ref"])
         .map(String::from);
-    let ratios = names.chain(["C", "ref"]).map(|name| format!("lib/{name}"));
+    let ratios = names.chain(["ref", "C"]).map(|name| format!("lib/{name}"));
     print_cells(["call", "list"], &times.chain(ratios).collect::<Vec<_>>(), "target");
 }
 
 pub fn print_row(row: &Row) {
-    let times = [row.library].into_iter().chain(row.c.iter().copied()).chain([row.rust]);
-    let ratios = row
-        .c
-        .iter()
-        .copied()
-        .chain([row.faster_c(), row.rust])
-        .map(|time| row.library / time);
+    let times = row.nanoseconds.iter().copied();
+    let ratios = row.ratios.iter().copied().chain([row.to_faster_c()]);
     let numbers: Vec<String> = times.chain(ratios).map(decimals).collect();
     print_cells([row.name, row.list], &numbers, &row.verdict());
 }
