@@ -1,28 +1,21 @@
 -- The line at a position as an offset and a length: from the part that `ticket::line` hands back.
 -- Assumes nothing.
-use Prim.Native.Nat.{ℕ, _+_, _≤_}
+use Prim.Native.Nat.{ℕ}
 use mathlib.Core.Path.{_≡_, refl, sym, ap, _∙_}
 use mathlib.Core.List.{List, []}
 use native.Mathlib.Decide.{ℕ-discrete}
 use native.Mathlib.Omega.{arith}
-use lib.ListN.{length, take, drop, length-drop}
-use lib.Seq.{length-take-le}
-use Rattle.ticket.specs.Ticket.{parse, lineDigits, lineRefusalOf, lineStart, lineOf, linePlace}
-use Rattle.ticket.proofs.Answers.{no-line, no-place, line-fits, cut-line, the-line, its-place}
+use lib.ListN.{length, take, drop}
+use Rattle.ticket.specs.Ticket.{parse, lineRefusalOf, lineStart, lineOf, linePlace}
+use Rattle.ticket.proofs.Answers.{no-line, no-place, line-length, cut-line, the-line, its-place}
 use Rattle.firmware.specs.Answers.{linePart}
 
 module _ (t : List ℕ) (p : ℕ) where
-  -- a line has its digits
-  line-length : 0 ≡ lineRefusalOf (parse t) p → length (lineOf t p) ≡ lineDigits
-  line-length e =
-      let l : lineDigits ≤ length (drop (lineStart p) t) = omega (arith, length-drop (lineStart p) t, line-fits t p e) in
-      sym (ap length (sym (cut-line t p refl) ∙ the-line t p e refl)) ∙ length-take-le lineDigits (drop (lineStart p) t) l
-
-  -- so no line is empty, and an empty part is no line
+  -- no line is empty, and an empty part is no line
   line-when : length (lineOf t p) ≡ 0 → (0 ≡ linePlace t p) × ([] ≡ lineOf t p)
   line-when z =
       elim (ℕ-discrete (lineRefusalOf (parse t) p) 0) [
-        | yes e ↦ absurd (omega (arith, line-length (sym e)))
+        | yes e ↦ absurd (omega (arith, line-length t p (sym e)))
         | no n ↦ (no-place t p refl n, no-line t p refl n)
       ]
 
@@ -31,7 +24,7 @@ module _ (t : List ℕ) (p : ℕ) where
       → (at ≡ linePlace t p) × (take (length (lineOf t p)) (drop at t) ≡ lineOf t p)
   line-there at a n =
       elim (ℕ-discrete (lineRefusalOf (parse t) p) 0) [
-        | yes e ↦ (a ∙ its-place t p (sym e), rw (line-length (sym e), a) (sym (cut-line t p refl) ∙ the-line t p (sym e) refl))
+        | yes e ↦ (a ∙ its-place t p (sym e), rw (line-length t p (sym e), a) (sym (cut-line t p refl) ∙ the-line t p (sym e) refl))
         | no m ↦ absurd (n (sym (ap length (no-line t p refl m))))
       ]
 

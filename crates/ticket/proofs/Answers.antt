@@ -4,8 +4,8 @@ use Prim.Native.Nat.{ℕ, _+_, _-_, _≤_, _<_}
 use mathlib.Core.Path.{_≡_, refl, sym, ap, _∙_}
 use mathlib.Core.List.{List, [], _++_}
 use native.Mathlib.Omega.{arith}
-use lib.ListN.{length, take, drop, replicate, length-append, List·getD-append}
-use lib.Seq.{take-at}
+use lib.ListN.{length, take, drop, replicate, length-append, length-drop, List·getD-append}
+use lib.Seq.{take-at, length-take-le}
 use borrow.Author.Tests.{ne-eqb, lt-ltb, le-ltb, ltb-true}
 use lib.Dec.{ltb}
 use Rattle.schedule.specs.Count.{tabulate}
@@ -108,6 +108,12 @@ module _ (t : List ℕ) (p : ℕ) where
     pub the-line : {at : ℕ} → at ≡ lineStart p → take (at + lineDigits - at) (drop at t) ≡ lineOf t p
     unfolding lineOf
     the-line a = cut-line t p a ∙ rw (← e)
+
+    -- a line has its digits
+    pub line-length : length (lineOf t p) ≡ lineDigits
+    line-length =
+        let l : lineDigits ≤ length (drop (lineStart p) t) = omega (arith, length-drop (lineStart p) t, line-fits) in
+        sym (ap length (sym (cut-line t p refl) ∙ the-line refl)) ∙ length-take-le lineDigits (drop (lineStart p) t) l
 
     pub its-place : lineStart p ≡ linePlace t p
     unfolding linePlace

@@ -7,14 +7,11 @@ use mathlib.Core.List.{List, [], _∷_, _++_, append-assoc, append-nil}
 use native.Mathlib.Nat.{zero-add, add-zero, add-suc}
 use native.Mathlib.Omega.{arith}
 use lib.ListN.{length, replicate, replicate-append-replicate}
-use borrow.Author.Tests.{le-ltb}
+use borrow.Author.Tests.{lt-ltb, le-ltb}
 use Rattle.header.specs.declared.Header.{Header}
-use Rattle.schedule.specs.Schedule.{cardOf}
 use Rattle.schedule.specs.declared.Position.{Position}
-use Rattle.text.proofs.Hex.{length-hex}
 use Rattle.ticket.specs.Ticket.{accepted, refused, parse, lineDigits, lineOf, linePlace}
-use Rattle.ticket.proofs.Main.{line-card}
-use Rattle.ticket.proofs.Answers.{no-line}
+use Rattle.ticket.proofs.Answers.{no-line, line-length}
 use Rattle.walker.specs.Walk.{end, gives, givesFrom, movedTo, after, walk, WalksOn, readerLines}
 use Rattle.walker.specs.declared.Walker.{Walker}
 use Rattle.walker.proofs.Same.{a-number, same-line, same-place}
@@ -32,7 +29,7 @@ lines-end t m none (suc n) =
 -- With an accepted ticket the first step that gives the end comes after the last line: every line has its 2 digits.
 pub line-not-end :
     (t : List ℕ) (h : Header) (cards : List ℕ) → parse t ≡ accepted h cards → (p : ℕ) → p < length cards → length (lineOf t p) ≡ lineDigits
-line-not-end t h cards e p l = rw (line-card t h cards e p l) (length-hex lineDigits (cardOf cards p))
+line-not-end t h cards e p l = line-length t p (rw (e, lt-ltb p (length cards) l) refl)
 
 -- A walker that is set at another position is on the same ticket.
 pub at-walks : (t : List ℕ) (p : ℕ) (w : Walker) (q : Position) → WalksOn t p w → WalksOn t (q .0) (movedTo w q)
