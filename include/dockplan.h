@@ -7,7 +7,8 @@
  *     returns. The proof is about callers who keep the rules of this page; nothing can check them here.
  *   - It keeps no state and uses no heap, so calls may run at the same time in several threads.
  *   - A refused call gives one number, of the table below. It changes nothing in lent memory, and the other
- *     numbers of its answer are 0 (the saver's are said below). Only dockplan_print has no number: it prints it.
+ *     numbers of its answer are 0 (the saver's are said below). Two calls have no place for the number:
+ *     dockplan_print prints it, and dockplan_line has dockplan_line_refusal beside it.
  *   - A pointer and a count are one piece of memory: `count` elements from the pointer on, of its type and
  *     alignment. With a count of 0 any pointer will do, NULL too. Memory that a call writes must not overlap
  *     other memory lent to the same call.

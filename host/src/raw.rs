@@ -1,17 +1,18 @@
 //! The calls of include/dockplan.h as they are. The structs are laid out as there, which tests/layout.rs compares.
+//! The default of an answer is all zeros, as beside a refusal.
 
 /// A cycle, counted from 1.
 #[repr(C)]
-#[derive(Clone, Copy, Debug, PartialEq, Eq)]
+#[derive(Clone, Copy, Debug, Default, PartialEq, Eq)]
 pub struct Cycle(pub u16);
 
 /// A frame's position in the list, counted from 0.
 #[repr(C)]
-#[derive(Clone, Copy, Debug, PartialEq, Eq)]
+#[derive(Clone, Copy, Debug, Default, PartialEq, Eq)]
 pub struct Position(pub u16);
 
 #[repr(C)]
-#[derive(Clone, Copy, Debug, PartialEq, Eq)]
+#[derive(Clone, Copy, Debug, Default, PartialEq, Eq)]
 pub struct TicketAnswer {
     pub refusal: u8,
     pub edition: u8,
@@ -22,21 +23,21 @@ pub struct TicketAnswer {
 }
 
 #[repr(C)]
-#[derive(Clone, Copy, Debug, PartialEq, Eq)]
+#[derive(Clone, Copy, Debug, Default, PartialEq, Eq)]
 pub struct Part {
     pub offset: usize,
     pub length: usize,
 }
 
 #[repr(C)]
-#[derive(Clone, Copy, Debug, PartialEq, Eq)]
+#[derive(Clone, Copy, Debug, Default, PartialEq, Eq)]
 pub struct CountsAnswer {
     pub refusal: u8,
     pub frames: [u16; 32],
 }
 
 #[repr(C)]
-#[derive(Clone, Copy, Debug, PartialEq, Eq)]
+#[derive(Clone, Copy, Debug, Default, PartialEq, Eq)]
 pub struct PlanAnswer {
     pub refusal: u8,
     pub cycles: Cycle,
@@ -49,7 +50,7 @@ pub const SHARED_CARD: u8 = 3;
 pub const OVERFULL: u8 = 4;
 
 #[repr(C)]
-#[derive(Clone, Copy, Debug, PartialEq, Eq)]
+#[derive(Clone, Copy, Debug, Default, PartialEq, Eq)]
 pub struct CheckAnswer {
     pub refusal: u8,
     pub verdict: u8,
@@ -59,7 +60,7 @@ pub struct CheckAnswer {
 }
 
 #[repr(C)]
-#[derive(Clone, Copy, Debug, PartialEq, Eq)]
+#[derive(Clone, Copy, Debug, Default, PartialEq, Eq)]
 pub struct RunAnswer {
     pub refusal: u8,
     pub broken: bool,

@@ -11,7 +11,7 @@ mod ticket;
 
 pub use saver::Saver;
 
-use crate::raw::{CheckAnswer, CountsAnswer, Cycle, Part, PlanAnswer, Position, RunAnswer, TicketAnswer, NO_VERDICT};
+use crate::raw::{CheckAnswer, CountsAnswer, Cycle, Part, PlanAnswer, Position, RunAnswer, TicketAnswer};
 use ticket::Ticket;
 
 /// "Tickets: 1 to 6, then line by line 7 before 8, then 9."
@@ -27,11 +27,7 @@ pub fn parse(ticket: &[u8]) -> TicketAnswer {
         },
         Err(refusal) => TicketAnswer {
             refusal,
-            edition: 0,
-            mode: 0,
-            cards: 0,
-            pool: 0,
-            frames: 0,
+            ..Default::default()
         },
     }
 }
@@ -55,7 +51,7 @@ pub fn counts(ticket: &[u8]) -> CountsAnswer {
         },
         Err(refusal) => CountsAnswer {
             refusal,
-            frames: [0; 32],
+            ..Default::default()
         },
     }
 }
@@ -66,7 +62,7 @@ pub fn plan(ticket: &[u8], out: &mut [u16]) -> PlanAnswer {
         Ok(cycles) => PlanAnswer { refusal: 0, cycles },
         Err(refusal) => PlanAnswer {
             refusal,
-            cycles: Cycle(0),
+            ..Default::default()
         },
     }
 }
@@ -99,10 +95,7 @@ pub fn print(ticket: &[u8], out: &mut [u8]) -> usize {
 pub fn check(ticket: &[u8], plan: &[u16]) -> CheckAnswer {
     check_or_refusal(ticket, plan).unwrap_or_else(|refusal| CheckAnswer {
         refusal,
-        verdict: NO_VERDICT,
-        position: Position(0),
-        cycles: Cycle(0),
-        peak: 0,
+        ..Default::default()
     })
 }
 
@@ -122,12 +115,7 @@ fn check_or_refusal(ticket: &[u8], plan: &[u16]) -> Result<CheckAnswer, u8> {
 pub fn run_plan(ticket: &[u8], plan: &[u16]) -> RunAnswer {
     run_or_refusal(ticket, plan).unwrap_or_else(|refusal| RunAnswer {
         refusal,
-        broken: false,
-        complete: false,
-        delivered: 0,
-        ended: Cycle(0),
-        needed: Cycle(0),
-        peak: 0,
+        ..Default::default()
     })
 }
 

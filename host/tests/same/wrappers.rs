@@ -103,11 +103,7 @@ fn ticket_answer(wrapped: Result<dockplan::Ticket, Refusal>) -> TicketAnswer {
         },
         Err(Refusal(refusal)) => TicketAnswer {
             refusal,
-            edition: 0,
-            mode: 0,
-            cards: 0,
-            pool: 0,
-            frames: 0,
+            ..Default::default()
         },
     }
 }
@@ -117,7 +113,7 @@ fn counts_answer(wrapped: Result<[u16; 32], Refusal>) -> CountsAnswer {
         Ok(frames) => CountsAnswer { refusal: 0, frames },
         Err(Refusal(refusal)) => CountsAnswer {
             refusal,
-            frames: [0; 32],
+            ..Default::default()
         },
     }
 }
@@ -127,7 +123,7 @@ fn plan_answer(wrapped: Result<Cycle, Refusal>) -> PlanAnswer {
         Ok(cycles) => PlanAnswer { refusal: 0, cycles },
         Err(Refusal(refusal)) => PlanAnswer {
             refusal,
-            cycles: Cycle(0),
+            ..Default::default()
         },
     }
 }
