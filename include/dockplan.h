@@ -185,12 +185,12 @@ dockplan_run_answer dockplan_run_plan(const uint8_t *ticket, size_t bytes, const
 typedef struct {
     uint8_t cards;
     uint16_t pool;
-    uint16_t taken;   /* frames saved: the next one's position */
-    uint16_t made;    /* cycles made */
-    uint16_t waiting; /* frames in the pool */
+    uint16_t taken;      /* frames saved: also the number of the next one's position */
+    dockplan_cycle made; /* cycles made: the number of the last one, 0 for none */
+    uint16_t waiting;    /* frames in the pool */
     bool closing;
     uint8_t card[DOCKPLAN_MAX_POOL];
-    uint16_t position[DOCKPLAN_MAX_POOL];
+    dockplan_position position[DOCKPLAN_MAX_POOL];
 } dockplan_saver;
 
 /* The entry of a card that writes nothing. */

@@ -182,7 +182,7 @@ impl Saver {
         self.record.waiting
     }
 
-    /// The frames saved so far, which is the position of the next one.
+    /// The frames saved so far; the next one gets the position of this number.
     pub fn taken(&self) -> u16 {
         self.record.taken
     }

@@ -77,11 +77,11 @@ pub struct Saver {
     pub cards: u8,
     pub pool: u16,
     pub taken: u16,
-    pub made: u16,
+    pub made: Cycle,
     pub waiting: u16,
     pub closing: bool,
     pub card: [u8; 1024],
-    pub position: [u16; 1024],
+    pub position: [Position; 1024],
 }
 
 /// The entry of a card that writes nothing.

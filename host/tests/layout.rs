@@ -62,6 +62,25 @@ fn structs_are_those_of_the_header() {
     ]);
 }
 
+/// Wherever the header has a cycle or a position, it has the type of its own.
+#[test]
+fn cycles_and_positions_are_not_plain_numbers() {
+    let fields = [
+        ("dockplan_plan_answer", "cycles", "dockplan_cycle"),
+        ("dockplan_check_answer", "position", "dockplan_position"),
+        ("dockplan_check_answer", "cycles", "dockplan_cycle"),
+        ("dockplan_run_answer", "ended", "dockplan_cycle"),
+        ("dockplan_run_answer", "needed", "dockplan_cycle"),
+        ("dockplan_saver", "made", "dockplan_cycle"),
+        ("dockplan_saver", "position[0]", "dockplan_position"),
+        ("dockplan_saver_answer", "cycle", "dockplan_cycle"),
+        ("dockplan_saver_answer", "written[0]", "dockplan_position"),
+    ];
+    compile(&fields.map(|(c, field, own)| {
+        format!("_Static_assert(_Generic((({c} *)0)->{field}, {own}: 1, default: 0), \"{c}.{field}\");\n")
+    }));
+}
+
 #[test]
 fn constants_are_those_of_the_header() {
     let constants = [

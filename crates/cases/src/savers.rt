@@ -37,7 +37,7 @@ fn answer(a: Answer) {
     output::number(s.cards as u64, 8);
     output::number(s.pool as u64, 8);
     output::number(s.taken as u64, 8);
-    output::number(s.made as u64, 8);
+    output::number(s.made.0 as u64, 8);
     output::number(s.waiting as u64, 8);
     output::yes_or_no(s.closing);
     output::spaces(2);

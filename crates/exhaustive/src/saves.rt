@@ -76,7 +76,7 @@ fn same_tables(a: Saver, b: Saver) -> bool {
     let mut same = true;
     let mut i: usize = 0;
     while i < 1024 {
-        if (a.card[i] != b.card[i]) | (a.position[i] != b.position[i]) {
+        if (a.card[i] != b.card[i]) | (a.position[i].0 != b.position[i].0) {
             same = false;
         }
         i += 1;
@@ -86,7 +86,11 @@ fn same_tables(a: Saver, b: Saver) -> bool {
 
 fn same_record(a: Saver, b: Saver) -> bool {
     let given = (a.cards == b.cards) & (a.pool == b.pool) & (a.closing == b.closing);
-    given & (a.taken == b.taken) & (a.made == b.made) & (a.waiting == b.waiting) & same_tables(a, b)
+    given
+        & (a.taken == b.taken)
+        & (a.made.0 == b.made.0)
+        & (a.waiting == b.waiting)
+        & same_tables(a, b)
 }
 
 // Cycles of frames that were all written before, so that any that is written again is noted.
@@ -136,8 +140,8 @@ pub(crate) fn compare_saver(counts: &mut [u64; 32], ticket: &[u8], cards: &[u16]
     let mut cycles = [0u16; 8];
     let saved = save_list(cards, m, &mut cycles);
     let closed = close_list(saved, cards, &mut cycles);
-    let got = report::pack_plan(report::wide(closed.made), &cycles);
+    let got = report::pack_plan(report::wide(closed.made.0), &cycles);
     compare_greedy(counts, ticket, cards, m, got);
     compare_refused(counts, ticket, cards, closed);
-    report::add(counts, report::CYCLES, report::wide(closed.made));
+    report::add(counts, report::CYCLES, report::wide(closed.made.0));
 }

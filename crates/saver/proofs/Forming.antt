@@ -7,7 +7,7 @@ use mathlib.Core.List.{List}
 use native.Mathlib.Omega.{arith}
 use native.Mathlib.Decide.{decLt}
 use lib.Dec.{leb}
-use lib.ListN.{length, getD, drop, set, replicate, length-set, length-append, length-drop, length-replicate, List·getD-append}
+use lib.ListN.{length, getD, drop, set, replicate, length-set, length-append, length-drop, length-replicate, length-map, List·getD-append}
 use lib.Seq.{getD-set-same, getD-set-other}
 use borrow.Author.Tests.{leb-true}
 use Rattle.schedule.specs.Count.{written}
@@ -16,8 +16,10 @@ use Rattle.header.specs.Limits.{maxCards, maxPool, maxFrames}
 use Rattle.waiting.proofs.Left.{left-shorter, left-same-length, left-all}
 use Rattle.saver.specs.declared.Saver.{Saver}
 use Rattle.saver.specs.declared.Answer.{Answer}
-use Rattle.saver.specs.Calls.{newSaver, noSaver, entered, cardsLeft, positionsLeft, afterCycle, closingBegun, newOf, saveOf, closeOf, Given, opened, saved, closed}
+use Rattle.saver.specs.Calls.{position, numbers, newSaver, noSaver, entered, cardsLeft, positionsLeft, afterCycle, closingBegun}
+use Rattle.saver.specs.Calls.{newOf, saveOf, closeOf, Given, opened, saved, closed}
 use Rattle.saver.specs.Formed.{Formed}
+use Rattle.saver.proofs.Tables.{numbers-of, numbers-set}
 use Rattle.saver.proofs.Answers.{save-cases, close-cases}
 
 formed-new : (cards pool : ℕ) (closing : Bool) → 1 ≤ cards → cards ≤ maxCards → 1 ≤ pool → pool ≤ maxPool → Formed (newSaver cards pool closing)
@@ -32,7 +34,7 @@ formed-new cards pool closing a b h k =
       each-card = λ i l. absurd (omega arith);
       each-position = λ i l. absurd (omega arith);
       cards-long = length-replicate {A = ℕ} maxPool 0;
-      positions-long = length-replicate {A = ℕ} maxPool 0;
+      positions-long = length-replicate maxPool (position 0);
     }
 
 -- the values of a table with one more, all below a bound
@@ -55,11 +57,13 @@ formed-entered s card f c t w =
       few-taken = omega arith;
       each-card = one-more-below (s .card) (s .waiting) card (s .cards) (omega (arith, f .cards-long, f .small-pool)) (f .each-card) c;
       each-position =
-          one-more-below (s .position) (s .waiting) (s .taken) (s .taken + 1) (omega (arith, f .positions-long, f .small-pool))
+          rw (numbers-set (s .position) (s .waiting) (s .taken))
+          (one-more-below (numbers (s .position)) (s .waiting) (s .taken) (s .taken + 1)
+          (omega (arith, length-map (s .position) (λ p. p .0), f .positions-long, f .small-pool))
           (λ i l. omega (arith, f .each-position i l))
-          (omega arith);
+          (omega arith));
       cards-long = length-set (s .card) (s .waiting) card ∙ f .cards-long;
-      positions-long = length-set (s .position) (s .waiting) (s .taken) ∙ f .positions-long;
+      positions-long = length-set (s .position) (s .waiting) (position (s .taken)) ∙ f .positions-long;
     }
 
 -- a list that fits stands at the front of an empty table
@@ -78,7 +82,7 @@ table-front l table i h = List·getD-append l (drop (length l) table) 0 i h
 pub formed-cycle : (s : Saver) → Formed s → 1 ≤ s .waiting → Formed (afterCycle s) × (afterCycle s .waiting < s .waiting)
 formed-cycle s f some =
     let fewer : length (cardsLeft s) < s .waiting = left-shorter (s .card) (s .card) (s .waiting) some in
-    let same : length (cardsLeft s) ≡ length (positionsLeft s) = left-same-length (s .card) (s .card) (s .position) (s .waiting) in (
+    let same : length (cardsLeft s) ≡ length (positionsLeft s) = left-same-length (s .card) (s .card) (numbers (s .position)) (s .waiting) in (
       record {
         few-cards = f .few-cards;
         small-pool = f .small-pool;
@@ -88,10 +92,11 @@ formed-cycle s f some =
         few-taken = f .few-taken;
         each-card = λ i l. rw (table-front (cardsLeft s) (replicate maxPool 0) i l) (left-all (s .card) (s .card) (s .waiting) (s .cards) (f .each-card) i l);
         each-position = λ i l.
-            rw (table-front (positionsLeft s) (replicate maxPool 0) i (omega arith))
-            (left-all (s .card) (s .position) (s .waiting) (s .taken) (f .each-position) i (omega arith));
+            rw (numbers-of (written (positionsLeft s) (replicate maxPool 0)), table-front (positionsLeft s) (replicate maxPool 0) i (omega arith))
+            (left-all (s .card) (numbers (s .position)) (s .waiting) (s .taken) (f .each-position) i (omega arith));
         cards-long = table-long (cardsLeft s) (omega (arith, f .in-pool, f .small-pool));
-        positions-long = table-long (positionsLeft s) (omega (arith, f .in-pool, f .small-pool));
+        positions-long =
+            length-map (written (positionsLeft s) (replicate maxPool 0)) position ∙ table-long (positionsLeft s) (omega (arith, f .in-pool, f .small-pool));
       },
       fewer,
     )

@@ -12,7 +12,7 @@ use Rattle.schedule.proofs.Main.{save-fewest}
 use Rattle.header.specs.Limits.{maxCards, maxPool, maxFrames, Within}
 use Rattle.waiting.specs.Log.{logOf, times, timesIn}
 use Rattle.saver.specs.declared.Saver.{Saver}
-use Rattle.saver.specs.Calls.{newOf, saveOf, closeOf, Given}
+use Rattle.saver.specs.Calls.{numbers, newOf, saveOf, closeOf, Given}
 use Rattle.saver.specs.Follows.{SaveFollows, CloseFollows, Shows}
 use Rattle.saver.specs.Runs.{Call, save, after, log, savedAndClosed}
 use Rattle.saver.proofs.Opening as opening
@@ -32,7 +32,7 @@ module _ (cards m : ℕ) (of-cards : Within maxCards cards) (of-pool : Within ma
     unfolding saveAndKeep
     saves-write = sym (whole.all-saved cards m of-cards of-pool list few low .logs)
 
-    pub saves-make : after new (map save list) .made ≡ saveAndKeep m list .T
+    pub saves-make : after new (map save list) .made .0 ≡ saveAndKeep m list .T
     unfolding saveAndKeep
     saves-make = whole.all-saved cards m of-cards of-pool list few low .begun .shows .made
 
@@ -45,11 +45,11 @@ module _ (cards m : ℕ) (of-cards : Within maxCards cards) (of-pool : Within ma
       pub closing-writes : log new (savedAndClosed list k) ≡ logOf list (greedyWriting m list)
       closing-writes = whole.writes-plan cards m of-cards of-pool list few low k emptied
 
-      pub closing-makes : after new (savedAndClosed list k) .made ≡ greedyWriting m list .T
+      pub closing-makes : after new (savedAndClosed list k) .made .0 ≡ greedyWriting m list .T
       closing-makes = whole.makes-plan cards m of-cards of-pool list few low k emptied
 
       -- No correct save schedule of the list has fewer cycles than the saver made.
-      pub closing-fewest : (others : List ℕ) → CorrectSave m list others → after new (savedAndClosed list k) .made ≤ cyclesIn others
+      pub closing-fewest : (others : List ℕ) → CorrectSave m list others → after new (savedAndClosed list k) .made .0 ≤ cyclesIn others
       closing-fewest others ok = rw closing-makes (save-fewest m list (of-pool .0) others ok)
 
   -- Whatever calls are made, refused ones among them, the pool never holds more than m frames.
@@ -60,7 +60,7 @@ module _ (cards m : ℕ) (of-cards : Within maxCards cards) (of-pool : Within ma
 -- written twice, nothing that was written still waits, and nothing is lost.
 pub each-once : (cards m : ℕ) (calls : List Call) (i : ℕ) → i < after (newOf cards m .saver) calls .taken
     → timesIn i (log (newOf cards m .saver) calls)
-    + times i (take (after (newOf cards m .saver) calls .waiting) (after (newOf cards m .saver) calls .position))
+    + times i (take (after (newOf cards m .saver) calls .waiting) (numbers (after (newOf cards m .saver) calls .position)))
     ≡ 1
 each-once = whole.each-once
 

@@ -14,7 +14,7 @@ use Rattle.waiting.proofs.Saves.{flush-done}
 use Rattle.waiting.proofs.Once.{once}
 use Rattle.saver.specs.declared.Saver.{Saver}
 use Rattle.saver.specs.declared.Answer.{Answer}
-use Rattle.saver.specs.Calls.{newSaver, newOf}
+use Rattle.saver.specs.Calls.{numbers, newSaver, newOf}
 use Rattle.saver.specs.Formed.{Formed}
 use Rattle.saver.specs.Follows.{Shows}
 use Rattle.saver.specs.Runs.{Call, save, close, after, log, accepted, savedAndClosed}
@@ -85,8 +85,8 @@ module _ (cards m : ℕ) (of-cards : Within maxCards cards) (of-pool : Within ma
           ∙ sym (all-closed k .logs)
           ∙ ap (logOf list) all-frames
 
-      pub makes-plan : after new (savedAndClosed list k) .made ≡ greedyWriting m list .T
-      makes-plan = ap (λ (s : Saver). s .made) (record-after k) ∙ all-closed k .shows .made ∙ ap (λ (p : Plan). p .T) all-frames
+      pub makes-plan : after new (savedAndClosed list k) .made .0 ≡ greedyWriting m list .T
+      makes-plan = ap (λ (s : Saver). s .made .0) (record-after k) ∙ all-closed k .shows .made ∙ ap (λ (p : Plan). p .T) all-frames
 
   pub pool-kept : (calls : List Call) → after new calls .waiting ≤ m
   pool-kept calls =
@@ -110,7 +110,7 @@ module _ (cards m : ℕ) (calls : List Call) where
   shown : Shown list empty last (log first calls)
   shown = calls-shown list calls first empty (formed-opened cards m) (new-shows list cards m) (rw none-taken)
 
-  pub each-once : (i : ℕ) → i < last .taken → timesIn i (log first calls) + times i (take (last .waiting) (last .position)) ≡ 1
+  pub each-once : (i : ℕ) → i < last .taken → timesIn i (log first calls) + times i (take (last .waiting) (numbers (last .position))) ≡ 1
   each-once i l =
       let v : Shows list (shown .0) last = shown .1 in
       let few : last .taken ≤ maxFrames = formed-after calls first (formed-opened cards m) .0 .few-taken in

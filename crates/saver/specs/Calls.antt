@@ -21,6 +21,10 @@ position i = record { 0 = i }
 abbrev pub cycle : ℕ → Cycle
 cycle c = record { 0 = c }
 
+-- positions by their numbers, as crates/waiting takes them
+abbrev pub numbers : List Position → List ℕ
+numbers l = map (λ p. p .0) l
+
 -- "nothing taken or waiting"
 abbrev pub newSaver : ℕ → ℕ → Bool → Saver
 newSaver cards pool closing =
@@ -28,11 +32,11 @@ newSaver cards pool closing =
       cards = cards;
       pool = pool;
       taken = 0;
-      made = 0;
+      made = cycle 0;
       waiting = 0;
       closing = closing;
       card = replicate maxPool 0;
-      position = replicate maxPool 0;
+      position = replicate maxPool (position 0);
     }
 
 -- "the record that comes with such a refusal has one card, a pool of 1, nothing taken or waiting, and closing begun"
@@ -58,7 +62,7 @@ entered s card =
       waiting = s .waiting + 1;
       closing = s .closing;
       card = set (s .card) (s .waiting) card;
-      position = set (s .position) (s .waiting) (s .taken);
+      position = set (s .position) (s .waiting) (position (s .taken));
     }
 
 -- the frames that a cycle leaves in the pool: their cards, and their positions
@@ -66,7 +70,7 @@ abbrev pub cardsLeft : Saver → List ℕ
 cardsLeft s = left (s .card) (s .card) (s .waiting)
 
 abbrev pub positionsLeft : Saver → List ℕ
-positionsLeft s = left (s .card) (s .position) (s .waiting)
+positionsLeft s = left (s .card) (numbers (s .position)) (s .waiting)
 
 -- "one cycle is made: every card with waiting frames writes the one that is first in the list"
 abbrev pub afterCycle : Saver → Saver
@@ -75,19 +79,19 @@ afterCycle s =
       cards = s .cards;
       pool = s .pool;
       taken = s .taken;
-      made = s .made + 1;
+      made = cycle (s .made .0 + 1);
       waiting = length (cardsLeft s);
       closing = s .closing;
       card = written (cardsLeft s) (replicate maxPool 0);
-      position = written (positionsLeft s) (replicate maxPool 0);
+      position = map position (written (positionsLeft s) (replicate maxPool 0));
     }
 
 -- "Each call's answer has one entry for each of the 32 cards: the position written in this cycle, or 65,535 for none."
 abbrev pub entries : Saver → List Position
-entries s = map position (tabulate maxCards (λ k. writes k (s .card) (s .position) (s .waiting)))
+entries s = map position (tabulate maxCards (λ k. writes k (s .card) (numbers (s .position)) (s .waiting)))
 
 abbrev pub cycleOn : Saver → Answer
-cycleOn s = record { refusal = 0; cycle = cycle (s .made + 1); written = entries s; saver = afterCycle s }
+cycleOn s = record { refusal = 0; cycle = cycle (s .made .0 + 1); written = entries s; saver = afterCycle s }
 
 -- an answer whose record the frame then enters
 abbrev pub thenEnters : Answer → ℕ → Answer

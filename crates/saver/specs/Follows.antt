@@ -12,15 +12,15 @@ use Rattle.waiting.specs.Pool.{none, poolOf}
 use Rattle.waiting.specs.Log.{entriesOf, Told}
 use Rattle.saver.specs.declared.Saver.{Saver}
 use Rattle.saver.specs.declared.Answer.{Answer}
-use Rattle.saver.specs.Calls.{position}
+use Rattle.saver.specs.Calls.{position, numbers}
 
 -- The record shows the plan p in the making, of a list that begins with the frames saved so far: the same frames wait, in list order, and as
 -- many cycles have been made.
 pub record Shows (list : List ℕ) (p : Plan) (s : Saver) : Type 0 where
   pub taken : s .taken ≡ length (p .cycles)
-  pub made : s .made ≡ p .T
+  pub made : s .made .0 ≡ p .T
   pub waiting : s .waiting ≡ inPool (p .cycles)
-  pub positions : take (s .waiting) (s .position) ≡ poolOf (p .cycles)
+  pub positions : take (s .waiting) (numbers (s .position)) ≡ poolOf (p .cycles)
   pub cards : take (s .waiting) (s .card) ≡ map (cardOf list) (poolOf (p .cycles))
   -- what greedyWriting's plans have: no cycle over T, and no card with two frames in one
   pub told : Told list p

@@ -7,7 +7,7 @@ use lib.Dec.{eqb}
 use lib.ListN.{replicate}
 use Rattle.saver.specs.declared.Saver.{Saver}
 use Rattle.saver.specs.declared.Answer.{Answer}
-use Rattle.saver.specs.Calls.{saveOf, closeOf}
+use Rattle.saver.specs.Calls.{numbers, saveOf, closeOf}
 
 -- a save of a frame on a card, or a closing cycle
 pub data Call : Type 0 where
@@ -25,7 +25,7 @@ after s (a ∷ calls) = after (answerTo s a .saver) calls
 
 -- what the answer's cycle wrote: an entry for each card; nothing if it made no cycle
 abbrev pub logged : Answer → List (List ℕ)
-logged r = cond (eqb (r .cycle .0) 0) [] (map (λ p. p .0) (r .written) ∷ [])
+logged r = cond (eqb (r .cycle .0) 0) [] (numbers (r .written) ∷ [])
 
 -- what the cycles of all calls wrote, in the order of the calls
 abbrev pub log : Saver → List Call → List (List ℕ)

@@ -15,15 +15,15 @@ use schedule::Position;
 pub struct Saver {
     pub cards: u8,
     pub pool: u16,
-    // how many frames have been saved: the next one's position
+    // how many frames have been saved: the next one gets Position(taken)
     pub taken: u16,
-    // how many cycles have been made
-    pub made: u16,
+    // how many cycles have been made: the number of the last one, 0 for none
+    pub made: Cycle,
     // how many frames wait in the pool
     pub waiting: u16,
     pub closing: bool,
     pub card: [u8; 1024],
-    pub position: [u16; 1024],
+    pub position: [Position; 1024],
 }
 
 // What a call gives back: the number of a refusal, 0 for none; the cycle that it made, 0 for none; for each card the position written in

@@ -17,11 +17,11 @@ pub(crate) fn empty(cards: u8, pool: u16, closing: bool) -> Saver
         cards: cards,
         pool: pool,
         taken: 0,
-        made: 0,
+        made: Cycle(0),
         waiting: 0,
         closing: closing,
         card: [0u8; 1024],
-        position: [0u16; 1024],
+        position: [Position(0); 1024],
     }
 }
 
@@ -57,7 +57,7 @@ pub(crate) fn enter(mut saver: Saver, card: u8) -> Saver
 {
     let i = saver.waiting as usize;
     saver.card[i] = card;
-    saver.position[i] = saver.taken;
+    saver.position[i] = Position(saver.taken);
     saver.waiting += 1;
     saver.taken += 1;
     saver
@@ -72,7 +72,7 @@ pub(crate) fn one_cycle(saver: Saver) -> Answer
 {
     let mut written = [Position(NONE); 32];
     let mut card = [0u8; 1024];
-    let mut position = [0u16; 1024];
+    let mut position = [Position(0); 1024];
     let mut left: u16 = 0;
     let mut i: u16 = 0;
     while i < saver.waiting {
@@ -83,7 +83,7 @@ pub(crate) fn one_cycle(saver: Saver) -> Answer
         let entry = written[k].0;
         i += 1;
         if entry == NONE {
-            written[k] = Position(p);
+            written[k] = p;
         } else {
             let to = left as usize;
             card[to] = c;
@@ -91,15 +91,16 @@ pub(crate) fn one_cycle(saver: Saver) -> Answer
             left += 1;
         }
     }
+    let made = Cycle(saver.made.0 + 1);
     Answer {
         refusal: 0,
-        cycle: Cycle(saver.made + 1),
+        cycle: made,
         written: written,
         saver: Saver {
             cards: saver.cards,
             pool: saver.pool,
             taken: saver.taken,
-            made: saver.made + 1,
+            made: made,
             waiting: left,
             closing: saver.closing,
             card: card,

@@ -5,7 +5,7 @@ use crate::raw::{self, Cycle, Position, SaverAnswer};
 /// A frame that waits in the pool.
 #[derive(Clone, Copy)]
 struct Frame {
-    position: u16,
+    position: Position,
     card: u8,
 }
 
@@ -15,7 +15,7 @@ pub struct Saver {
     cards: u8,
     pool: u16,
     taken: u16,
-    made: u16,
+    made: Cycle,
     closing: bool,
     waiting: Vec<Frame>,
 }
@@ -48,7 +48,7 @@ impl Saver {
             cards,
             pool,
             taken: 0,
-            made: 0,
+            made: Cycle(0),
             closing: refusal != 0,
             waiting: Vec::new(),
         };
@@ -79,7 +79,7 @@ impl Saver {
             self.make_cycle()
         };
         self.waiting.push(Frame {
-            position: self.taken,
+            position: Position(self.taken),
             card,
         });
         self.taken += 1;
@@ -99,20 +99,20 @@ impl Saver {
 
     /// "Every card with waiting frames writes the one that is first in the list."
     fn make_cycle(&mut self) -> Made {
-        self.made += 1;
+        self.made.0 += 1;
         let mut written = NOTHING.written;
         let mut left = Vec::new();
         for &frame in &self.waiting {
             let entry = &mut written[usize::from(frame.card)];
             if *entry == Position(raw::NONE) {
-                *entry = Position(frame.position);
+                *entry = frame.position;
             } else {
                 left.push(frame);
             }
         }
         self.waiting = left;
         Made {
-            cycle: Cycle(self.made),
+            cycle: self.made,
             written,
         }
     }
@@ -137,7 +137,7 @@ impl Saver {
             waiting: self.waiting.len() as u16,
             closing: self.closing,
             card: [0; 1024],
-            position: [0; 1024],
+            position: [Position(0); 1024],
         };
         for (place, frame) in self.waiting.iter().enumerate() {
             record.card[place] = frame.card;

@@ -1,6 +1,6 @@
 -- `saver::steps::one_cycle` meets its contract.
 -- Assumes nothing.
-use Rattle.saver.proofs.Sorting.{Sorting, sort-first, sort-room, sort-writes, sort-keeps, sorted, card-below}
+use Rattle.saver.proofs.Sorting.{Sorting, card-below, place-below, sort-first, sort-writes, sort-keeps, sorted}
 use borrow.Author.Needs.{needs}
 use Prim.Native.Nat.{_-_}
 use native.Mathlib.Omega.{arith}
@@ -32,59 +32,71 @@ cast-k : tie.Need-cast-k Inv-loop μ-loop
 cast-k c = search needs
 
 mul-entry : tie.Need-mul-entry Inv-loop μ-loop
-mul-entry c = omega (arith, card-below (c .before .before .before .before .pre) (c .before .before .before .loop .i) (omega arith))
+mul-entry c =
+    let turn = c .before .before .before in
+    omega (arith, card-below (turn .before .pre) (turn .loop .i) (omega arith))
 
 element-copy-out-entry : tie.Need-element-copy-out-entry Inv-loop μ-loop
-element-copy-out-entry c = omega (arith, card-below (c .before .before .before .before .pre) (c .before .before .before .loop .i) (omega arith))
+element-copy-out-entry c =
+    let turn = c .before .before .before in
+    omega (arith, card-below (turn .before .pre) (turn .loop .i) (omega arith))
 
 add-i : tie.Need-add-i Inv-loop μ-loop
 add-i c = search needs
 
 mul-written : tie.Need-mul-written Inv-loop μ-loop
-mul-written c = omega (arith, card-below (c .before .before .before .before .before .pre) (c .before .before .before .before .loop .i) (omega arith))
+mul-written c =
+    let turn = c .before .before .before .before in
+    omega (arith, card-below (turn .before .pre) (turn .loop .i) (omega arith))
 
 array-set-from-written : tie.Need-array-set-from-written Inv-loop μ-loop
 array-set-from-written c =
-    omega (arith, card-below (c .before .before .before .before .before .pre) (c .before .before .before .before .loop .i) (omega arith))
+    let turn = c .before .before .before .before in
+    omega (arith, card-below (turn .before .pre) (turn .loop .i) (omega arith))
 
 loop-less : tie.Need-loop-less Inv-loop μ-loop
 loop-less c = search needs
 
 loop-again : tie.Need-loop-again Inv-loop μ-loop
 loop-again c =
-    sort-writes (c .before .before .before .before .before .pre) (c .before .before .before .before .loop .inv) (omega arith) (c .if1 .taken)
+    let turn = c .before .before .before .before in
+    sort-writes (turn .before .pre) (turn .loop .inv) (omega arith) (omega arith)
 
 cast-to : tie.Need-cast-to Inv-loop μ-loop
-cast-to c = omega (arith, sort-room (c .before .before .before .before .before .pre) (c .before .before .before .before .loop .inv))
+cast-to c =
+    let turn = c .before .before .before .before in
+    omega (arith, place-below (turn .before .pre) (turn .loop .inv) (omega arith))
 
 array-write-card : tie.Need-array-write-card Inv-loop μ-loop
 array-write-card c =
-    omega (arith, sort-room (c .before .before .before .before .before .pre) (c .before .before .before .before .loop .inv), c .before .before .before .before .before .pre .in-pool, c .before .before .before .before .before .pre .small-pool)
+    let turn = c .before .before .before .before in
+    omega (arith, place-below (turn .before .pre) (turn .loop .inv) (omega arith))
 
 mul-position : tie.Need-mul-position Inv-loop μ-loop
 mul-position c =
-    omega (arith, sort-room (c .before .before .before .before .before .pre) (c .before .before .before .before .loop .inv), c .before .before .before .before .before .pre .in-pool, c .before .before .before .before .before .pre .small-pool)
+    let turn = c .before .before .before .before in
+    omega (arith, place-below (turn .before .pre) (turn .loop .inv) (omega arith))
 
-array-write-position : tie.Need-array-write-position Inv-loop μ-loop
-array-write-position c =
-    omega (arith, sort-room (c .before .before .before .before .before .pre) (c .before .before .before .before .loop .inv), c .before .before .before .before .before .pre .in-pool, c .before .before .before .before .before .pre .small-pool)
+array-set-from-position : tie.Need-array-set-from-position Inv-loop μ-loop
+array-set-from-position c =
+    let turn = c .before .before .before .before in
+    omega (arith, place-below (turn .before .pre) (turn .loop .inv) (omega arith))
 
 add-left : tie.Need-add-left Inv-loop μ-loop
 add-left c =
-    omega (arith, sort-room (c .before .before .before .before .before .pre) (c .before .before .before .before .loop .inv), c .before .before .before .before .before .pre .in-pool, c .before .before .before .before .before .pre .small-pool)
+    let turn = c .before .before .before .before in
+    omega (arith, place-below (turn .before .pre) (turn .loop .inv) (omega arith))
 
 loop-less-2 : tie.Need-loop-less-2 Inv-loop μ-loop
 loop-less-2 c = search needs
 
 loop-again-2 : tie.Need-loop-again-2 Inv-loop μ-loop
 loop-again-2 c =
-    sort-keeps (c .before .before .before .before .before .pre) (c .before .before .before .before .loop .inv) (omega arith) (c .if1 .left)
+    let turn = c .before .before .before .before in
+    sort-keeps (turn .before .pre) (turn .loop .inv) (omega arith) (c .if1 .left)
 
-add-t35 : tie.Need-add-t35 Inv-loop μ-loop
-add-t35 c = search needs
-
-add-t42 : tie.Need-add-t42 Inv-loop μ-loop
-add-t42 c = search needs
+add-t36 : tie.Need-add-t36 Inv-loop μ-loop
+add-t36 c = search needs
 
 returns : tie.Need-returns Inv-loop μ-loop
 returns c = sorted (c .before .loop .inv) (omega arith)
@@ -111,10 +123,9 @@ one-cycle-spec =
     cast-to
     array-write-card
     mul-position
-    array-write-position
+    array-set-from-position
     add-left
     loop-less-2
     loop-again-2
-    add-t35
-    add-t42
+    add-t36
     returns)
