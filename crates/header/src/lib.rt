@@ -1,7 +1,7 @@
 // The header of a ticket: refusals 1 to 6.
 ghost use mathlib.Core.Path.{_≡_};
 ghost use Rattle.text.specs.Text.{digitValues};
-ghost use Rattle.header.specs.Heading.{judge, heading};
+ghost use Rattle.header.specs.Heading.{judge, heading, numbersOf};
 
 mod fields;
 pub mod limits;
@@ -69,7 +69,8 @@ fn read_heading(value: &[u8; 256], t: &[u8]) -> Answer
 
 // What the first 15 bytes of a ticket say, or refusal 1 to 6.
 pub fn heading(t: &[u8]) -> Answer
-    ensures { λ r. ⌜ r ≡ heading (now (t .entry)) ⌝ }
+    ensures answer { λ r. ⌜ r ≡ heading (now (t .entry)) ⌝ }
+    ensures numbers { λ r. ⌜ numbersOf r ≡ numbersOf (heading (now (t .entry))) ⌝ }
 {
     let value = text::digit_values();
     read_heading(&value, t)

@@ -20,8 +20,8 @@ pub fn larger(a: u16, b: u16) -> u16
 }
 
 // The number of cycles of a schedule: its largest cycle number, 0 for no frames.
-pub fn cycles_in(plan: &[u16]) -> u16
-    ensures { λ r. ⌜ r ≡ cyclesIn (now (plan .entry)) ⌝ }
+pub fn cycles_in(plan: &[u16]) -> Cycle
+    ensures { λ r. ⌜ r .0 ≡ cyclesIn (now (plan .entry)) ⌝ }
 {
     let n = plan.len();
     let mut top: u16 = 0;
@@ -33,5 +33,5 @@ pub fn cycles_in(plan: &[u16]) -> u16
             top = c;
         }
     }
-    top
+    Cycle(top)
 }

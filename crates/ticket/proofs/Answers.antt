@@ -12,11 +12,11 @@ use Rattle.schedule.specs.Count.{tabulate}
 use Rattle.schedule.specs.Schedule.{cardOf}
 use Rattle.schedule.proofs.Bits.{by-cases}
 use Rattle.schedule.proofs.Lists.{from-place, drop-replicate, length-tabulate}
-use Rattle.header.specs.Heading.{headerBytes, heading}
+use Rattle.header.specs.Heading.{headerBytes, heading, numbersOf}
 use Rattle.header.specs.Limits.{maxCards, maxFrames}
 use Rattle.ticket.specs.Grounds.{Fits}
 use Rattle.ticket.specs.Part.{place}
-use Rattle.ticket.specs.Ticket.{Parsed, accepted, refused, lineBytes, lineDigits, cardAt, partFault, parse, ticketOf, lineRefusalOf, lineStart, lineIn, lineOf, linePlace, countsUpTo, countsOf, zeros}
+use Rattle.ticket.specs.Ticket.{Parsed, accepted, refused, lineBytes, lineDigits, cardAt, partFault, parse, ticketOf, numbersIn, lineRefusalOf, lineStart, lineIn, lineOf, linePlace, countsUpTo, countsOf, zeros}
 use Rattle.ticket.proofs.Accepted.{as-many, fits, line-inside}
 use Rattle.ticket.proofs.Counting.{counts-front}
 use Rattle.ticket.proofs.Reader.{header-passes, header-read, refusal-number}
@@ -46,6 +46,14 @@ module _ (t : List ℕ) where
         let q : partFault (drop headerBytes t) (h .cards) (h .frames) ≡ 0 = sym (rw from-place at q) in
         let c : card ≡ tabulate (h .frames) (cardAt (drop headerBytes t)) ++ replicate (maxFrames - h .frames) 0 = rw (from-place, drop-replicate) at c in
         rw (e, q, length-tabulate, ← c)
+
+-- the two clauses of `parse`
+same-numbers : (p : Parsed) → numbersOf (ticketOf p .answer) ≡ numbersIn p
+same-numbers (accepted h cards) = refl
+same-numbers (refused k) = refl
+
+pub contract : (t : List ℕ) (r : Ticket) → r ≡ ticketOf (parse t) → (r ≡ ticketOf (parse t)) × (numbersOf (r .answer) ≡ numbersIn (parse t))
+contract t r e = (e, ap (λ (x : Ticket). numbersOf (x .answer)) e ∙ same-numbers (parse t))
 
 -- from the answer of `parse` to what it parsed
 answer-refused : (p : Parsed) (k : ℕ) → ticketOf p .answer ≡ Refused k → p ≡ refused k

@@ -10,7 +10,7 @@ use lib.ListN.{length, take, drop, replicate}
 use Rattle.schedule.specs.Count.{howMany, tabulate}
 use Rattle.schedule.specs.Schedule.{cardOf}
 use Rattle.text.specs.Text.{number, isLine}
-use Rattle.header.specs.Heading.{headerBytes, heading}
+use Rattle.header.specs.Heading.{headerBytes, heading, Numbers, acceptedAs, refusedBy}
 use Rattle.header.specs.Limits.{maxCards, maxFrames}
 use Rattle.header.specs.declared.Header.{Header}
 use Rattle.header.specs.declared.Answer.{Answer}
@@ -71,6 +71,11 @@ zeros n = replicate n 0
 abbrev pub ticketOf : Parsed → Ticket
 ticketOf (accepted h cards) = record { answer = Accepted h; card = cards ++ zeros (maxFrames - length cards) }
 ticketOf (refused k) = record { answer = Refused k; card = zeros maxFrames }
+
+-- The numbers of the answer: the refusal's, 0 for an accepted ticket, and what stands in the header, all 0 beside a refusal.
+abbrev pub numbersIn : Parsed → Numbers
+numbersIn (accepted h cards) = acceptedAs h
+numbersIn (refused k) = refusedBy k
 
 -- The number of the refusal, 0 for an accepted ticket.
 abbrev pub refusalOf : Parsed → ℕ

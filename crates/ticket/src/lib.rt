@@ -1,8 +1,8 @@
 // The ticket's text: what it says, or the number of the one refusal that it gets. Everything that takes a ticket goes through here.
 ghost use mathlib.Core.Path.{_≡_};
-ghost use Rattle.header.specs.Heading.{heading};
+ghost use Rattle.header.specs.Heading.{heading, numbersOf};
 ghost use Rattle.ticket.specs.Part.{place};
-ghost use Rattle.ticket.specs.Ticket.{refused, parse, ticketOf, refusalOf, lineRefusalOf, lineStart, lineOf, linePlace, countsOf};
+ghost use Rattle.ticket.specs.Ticket.{refused, parse, ticketOf, numbersIn, refusalOf, lineRefusalOf, lineStart, lineOf, linePlace, countsOf};
 
 mod lines;
 mod tally;
@@ -45,7 +45,8 @@ fn read_part(t: &[u8], h: Header) -> Ticket
 
 // Reads a ticket.
 pub fn parse(t: &[u8]) -> Ticket
-    ensures { λ r. ⌜ r ≡ ticketOf (parse (now (t .entry))) ⌝ }
+    ensures answer { λ r. ⌜ r ≡ ticketOf (parse (now (t .entry))) ⌝ }
+    ensures numbers { λ r. ⌜ numbersOf (r .answer) ≡ numbersIn (parse (now (t .entry))) ⌝ }
 {
     let answer = header::heading(t);
     match answer {

@@ -25,13 +25,13 @@ start-list-requires : tie.Need-start-list-requires
 start-list-requires c κs =
     let p = c .before .before .before .before .before .before .parse in
     let a = c .before .before .before .answer2 .given in
-    list-fits _ (p .result) (p .ensures) (a .0 .0) (a .1)
+    list-fits _ (p .result) (p .ensures .0) (a .0 .0) (a .1)
 
 returns : tie.Need-returns
 returns c =
     let p = c .before .before .before .before .before .parse in
     let a = c .before .before .answer .given in
-    ticket-refused _ (p .result) (p .ensures) (a .0 .0) (a .1) _ (c .refused .ensures) _
+    ticket-refused _ (p .result) (p .ensures .0) (a .0 .0) (a .1) _ (c .refused .ensures) _
 
 same-length : tie.Need-same-length
 same-length c = search needs
@@ -40,7 +40,7 @@ returns-2 : tie.Need-returns-2
 returns-2 c =
     let p = c .before .before .before .before .before .before .before .before .before .parse in
     let a = c .before .before .before .before .before .before .answer2 .given in
-    rw (list-read _ (p .result) (p .ensures) (a .0 .0) (a .1)) (c .before .before .start-list .ensures)
+    rw (list-read _ (p .result) (p .ensures .0) (a .0 .0) (a .1)) (c .before .before .start-list .ensures)
 
 pub start-spec : {M : Type 1} → statement M
 start-spec =

@@ -23,13 +23,13 @@ plan-list-requires : tie.Need-plan-list-requires
 plan-list-requires c κs =
     let p = c .before .before .before .before .before .before .parse in
     let a = c .before .before .before .answer2 .given in
-    list-fits _ (p .result) (p .ensures) (a .0 .0) (a .1)
+    list-fits _ (p .result) (p .ensures .0) (a .0 .0) (a .1)
 
 returns : tie.Need-returns
 returns c =
     let p = c .before .before .before .before .parse in
     let a = c .before .answer .given in
-    contract _ _ _ _ (ticket-refused _ (p .result) (p .ensures) (a .0 .0) _ (a .1))
+    contract _ _ _ _ (ticket-refused _ (p .result) (p .ensures .0) (a .0 .0) _ (a .1))
 
 same-length : tie.Need-same-length
 same-length c = search needs
@@ -38,7 +38,7 @@ returns-2 : tie.Need-returns-2
 returns-2 c =
     let p = c .before .before .before .before .before .before .before .before .before .parse in
     let a = c .before .before .before .before .before .before .answer2 .given in
-    contract _ _ _ _ (rw (list-read _ (p .result) (p .ensures) (a .0 .0) (a .1)) (c .before .before .plan-list .ensures))
+    contract _ _ _ _ (rw (list-read _ (p .result) (p .ensures .0) (a .0 .0) (a .1)) (c .before .before .plan-list .ensures))
 
 pub plan-spec : {M : Type 1} → statement M
 plan-spec =

@@ -22,19 +22,19 @@ run-list-requires : tie.Need-run-list-requires
 run-list-requires c κs =
     let p = c .before .before .before .before .before .parse in
     let a = c .before .before .answer2 .given in
-    list-fits _ (p .result) (p .ensures) (a .0 .0) (a .1)
+    list-fits _ (p .result) (p .ensures .0) (a .0 .0) (a .1)
 
 returns : tie.Need-returns
 returns c =
     let p = c .before .before .before .before .parse in
     let a = c .before .answer .given in
-    ticket-refused _ (p .result) (p .ensures) (a .0 .0) _ (a .1)
+    ticket-refused _ (p .result) (p .ensures .0) (a .0 .0) _ (a .1)
 
 returns-2 : tie.Need-returns-2
 returns-2 c =
     let p = c .before .before .before .before .before .before .before .parse in
     let a = c .before .before .before .before .answer2 .given in
-    rw (list-read _ (p .result) (p .ensures) (a .0 .0) (a .1)) (c .before .run-list .ensures)
+    rw (list-read _ (p .result) (p .ensures .0) (a .0 .0) (a .1)) (c .before .run-list .ensures)
 
 pub run-plan-spec : {M : Type 1} → statement M
 run-plan-spec =

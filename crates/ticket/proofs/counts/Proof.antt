@@ -26,18 +26,18 @@ tally-requires : tie.Need-tally-requires
 tally-requires c κs =
     let p = c .before .before .before .before .before .parse in
     let a = c .before .before .answer .given in
-    counts-asked _ (p .result) (p .ensures) (a .0 .0) (a .1)
+    counts-asked _ (p .result) (p .ensures .0) (a .0 .0) (a .1)
 
 returns : tie.Need-returns
 returns c =
     let p = c .before .before .before .parse in
-    counts-refused _ (p .result) (p .ensures) (c .enum-told .given .0 .0) (c .enum-told .given .1)
+    counts-refused _ (p .result) (p .ensures .0) (c .enum-told .given .0 .0) (c .enum-told .given .1)
 
 returns-2 : tie.Need-returns-2
 returns-2 c =
     let p = c .before .before .before .before .before .before .parse in
     let a = c .before .before .before .answer .given in
-    c .tally .ensures ∙ counts-given _ (p .result) (p .ensures) (a .0 .0) (a .1)
+    c .tally .ensures ∙ counts-given _ (p .result) (p .ensures .0) (a .0 .0) (a .1)
 
 pub counts-spec : {M : Type 1} → statement M
 counts-spec =

@@ -22,19 +22,19 @@ returns : tie.Need-returns
 returns c =
     let p = c .before .before .before .parse in
     let a = c .before .answer .given in
-    number-refused _ (p .result) (p .ensures) _ _ (a .1)
+    number-refused _ (p .result) (p .ensures .0) _ _ (a .1)
 
 returns-2 : tie.Need-returns-2
 returns-2 c =
     let p = c .before .before .before .before .before .before .parse in
     let a = c .before .before .before .before .answer2 .given in
-    below _ (p .result) (p .ensures) (a .0 .0) _ (a .1) (omega arith)
+    below _ (p .result) (p .ensures .0) (a .0 .0) _ (a .1) (omega arith)
 
 returns-3 : tie.Need-returns-3
 returns-3 c =
     let p = c .before .before .before .before .before .before .parse in
     let a = c .before .before .before .before .answer2 .given in
-    not-below _ (p .result) (p .ensures) (a .0 .0) _ (a .1) (omega arith)
+    not-below _ (p .result) (p .ensures .0) (a .0 .0) _ (a .1) (omega arith)
 
 pub line-refusal-spec : {M : Type 1} → statement M
 line-refusal-spec =

@@ -23,12 +23,12 @@ returns : tie.Need-returns
 returns c =
     let p = c .before .before .before .parse in
     let a = c .before .answer .given in
-    sym (ap refusalOf (was-refused _ (p .result) (p .ensures) (a .0 .0) (a .1)))
+    sym (ap refusalOf (was-refused _ (p .result) (p .ensures .0) (a .0 .0) (a .1)))
 
 returns-2 : tie.Need-returns-2
 returns-2 c =
     let p = c .before .before .parse in
-    sym (ap refusalOf (was-accepted _ (p .result) (p .ensures) (c .enum-told .given .0 .0) (c .enum-told .given .1) .1))
+    sym (ap refusalOf (was-accepted _ (p .result) (p .ensures .0) (c .enum-told .given .0 .0) (c .enum-told .given .1) .1))
 
 pub refusal-spec : {M : Type 1} → statement M
 refusal-spec = tie.close (tie.spec parse-requires enum-known-answer enum-told returns returns-2)
