@@ -27,7 +27,7 @@ fn plan_list(h: Header, card: &[u8], out: &mut [u16]) -> Answer
     if out.len() < n {
         return Answer::Refused(10);
     }
-    Answer::Planned(Cycle(modes::fill(h.mode, &card[..n], h.pool, out)))
+    Answer::Planned(modes::fill(h.mode, &card[..n], h.pool, out))
 }
 
 // Plans a ticket: fills the first places of the buffer with each frame's cycle and answers T; later places keep their content.

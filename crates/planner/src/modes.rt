@@ -8,58 +8,61 @@ ghost use Rattle.planner.specs.Pass.{Asked, onFirst, Filled};
 ghost use Rattle.planner.specs.Plan.{planFor};
 use crate::pass;
 use header::limits;
+use schedule::Cycle;
 
 // Cycle c of a schedule of t cycles becomes t − c + 1, at the first n places.
-fn turn_round(out: &mut [u16], n: usize, t: u16)
-    requires { ⌜ (n ≤ length (now out)) × (t ≤ 4096) × ((i : ℕ) → i < n → getD (now out) i 0 ≤ t) ⌝ }
-    ensures { λ r. ⌜ now (out .exit) ≡ onFirst (λ c. t - c + 1) n (now (out .entry)) ⌝ }
+fn turn_round(out: &mut [u16], n: usize, t: Cycle)
+    requires { ⌜ (n ≤ length (now out)) × (t .0 ≤ 4096) × ((i : ℕ) → i < n → getD (now out) i 0 ≤ t .0) ⌝ }
+    ensures { λ r. ⌜ now (out .exit) ≡ onFirst (λ c. t .0 - c + 1) n (now (out .entry)) ⌝ }
 {
     let mut i: usize = 0;
     while i < n {
-        out[i] = t - out[i] + 1;
+        out[i] = t.0 - out[i] + 1;
         i += 1;
     }
 }
 
 // A cycle as save and keep shows it: 0 where it is not made, since the frame then stays in the pool.
-fn as_of(made: u16, cycle: u16) -> u16
-    ensures { λ r. ⌜ r ≡ asOf made cycle ⌝ }
+fn as_of(made: Cycle, cycle: Cycle) -> Cycle
+    ensures { λ r. ⌜ r .0 ≡ asOf (made .0) (cycle .0) ⌝ }
 {
-    if cycle <= made { cycle } else { 0 }
+    if cycle.0 <= made.0 { cycle } else { Cycle(0) }
 }
 
 // Takes back the cycles that are not made, at the first n places.
-fn keep(out: &mut [u16], n: usize, made: u16)
+fn keep(out: &mut [u16], n: usize, made: Cycle)
     requires { ⌜ n ≤ length (now out) ⌝ }
-    ensures { λ r. ⌜ now (out .exit) ≡ onFirst (asOf made) n (now (out .entry)) ⌝ }
+    ensures { λ r. ⌜ now (out .exit) ≡ onFirst (asOf (made .0)) n (now (out .entry)) ⌝ }
 {
     let mut i: usize = 0;
     while i < n {
-        out[i] = as_of(made, out[i]);
+        let cycle = out[i];
+        let shown = as_of(made, Cycle(cycle));
+        out[i] = shown.0;
         i += 1;
     }
 }
 
-fn read_plan(cards: &[u8], m: u16, out: &mut [u16]) -> u16
+fn read_plan(cards: &[u8], m: u16, out: &mut [u16]) -> Cycle
     requires { ⌜ Asked m (now cards) (now out) ⌝ }
-    ensures { λ r. ⌜ Filled (lazyPrefetching m (now (cards .entry))) (now (out .entry)) (now (out .exit)) r ⌝ }
+    ensures { λ r. ⌜ Filled (lazyPrefetching m (now (cards .entry))) (now (out .entry)) (now (out .exit)) (r .0) ⌝ }
 {
     let turned = pass::pass(cards, m, true, out);
     turn_round(out, cards.len(), turned.all);
     turned.all
 }
 
-fn save_plan(cards: &[u8], m: u16, out: &mut [u16]) -> u16
+fn save_plan(cards: &[u8], m: u16, out: &mut [u16]) -> Cycle
     requires { ⌜ Asked m (now cards) (now out) ⌝ }
-    ensures { λ r. ⌜ Filled (greedyWriting m (now (cards .entry))) (now (out .entry)) (now (out .exit)) r ⌝ }
+    ensures { λ r. ⌜ Filled (greedyWriting m (now (cards .entry))) (now (out .entry)) (now (out .exit)) (r .0) ⌝ }
 {
     let saved = pass::pass(cards, m, false, out);
     saved.all
 }
 
-fn keep_plan(cards: &[u8], m: u16, out: &mut [u16]) -> u16
+fn keep_plan(cards: &[u8], m: u16, out: &mut [u16]) -> Cycle
     requires { ⌜ Asked m (now cards) (now out) ⌝ }
-    ensures { λ r. ⌜ Filled (saveAndKeep m (now (cards .entry))) (now (out .entry)) (now (out .exit)) r ⌝ }
+    ensures { λ r. ⌜ Filled (saveAndKeep m (now (cards .entry))) (now (out .entry)) (now (out .exit)) (r .0) ⌝ }
 {
     let kept = pass::pass(cards, m, false, out);
     keep(out, cards.len(), kept.made);
@@ -67,9 +70,9 @@ fn keep_plan(cards: &[u8], m: u16, out: &mut [u16]) -> u16
 }
 
 // Fills the first places with the plan of the list, and answers T.
-pub(crate) fn fill(mode: u8, cards: &[u8], m: u16, out: &mut [u16]) -> u16
+pub(crate) fn fill(mode: u8, cards: &[u8], m: u16, out: &mut [u16]) -> Cycle
     requires { ⌜ Asked m (now cards) (now out) ⌝ }
-    ensures { λ r. ⌜ Filled (planFor mode m (now (cards .entry))) (now (out .entry)) (now (out .exit)) r ⌝ }
+    ensures { λ r. ⌜ Filled (planFor mode m (now (cards .entry))) (now (out .entry)) (now (out .exit)) (r .0) ⌝ }
 {
     if mode == limits::READ {
         return read_plan(cards, m, out);

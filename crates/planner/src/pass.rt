@@ -5,11 +5,12 @@ ghost use lib.ListN.{length};
 ghost use Rattle.schedule.specs.Count.{largest};
 ghost use Rattle.header.specs.Limits.{maxCards};
 ghost use Rattle.planner.specs.Pass.{place, Asked, Passed};
+use schedule::Cycle;
 
-fn cycle_place(cycle: u16) -> usize
-    ensures { λ r. ⌜ r ≡ cycle ⌝ }
+fn cycle_place(cycle: Cycle) -> usize
+    ensures { λ r. ⌜ r ≡ cycle .0 ⌝ }
 {
-    cycle as usize
+    cycle.0 as usize
 }
 
 fn card_place(card: u8) -> usize
@@ -19,11 +20,15 @@ fn card_place(card: u8) -> usize
 }
 
 // The cycle of a frame that enters: the first that its card has free, after the cycles made.
-fn next_cycle(latest: u16, made: u16) -> u16
-    requires { ⌜ (latest ≤ 4096) × (made ≤ 4096) ⌝ }
-    ensures { λ r. ⌜ r ≡ max latest made + 1 ⌝ }
+fn next_cycle(latest: Cycle, made: Cycle) -> Cycle
+    requires { ⌜ (latest .0 ≤ 4096) × (made .0 ≤ 4096) ⌝ }
+    ensures { λ r. ⌜ r .0 ≡ max (latest .0) (made .0) + 1 ⌝ }
 {
-    if latest < made { made + 1 } else { latest + 1 }
+    if latest.0 < made.0 {
+        Cycle(made.0 + 1)
+    } else {
+        Cycle(latest.0 + 1)
+    }
 }
 
 // Where the frame stands that is taken k-th, from the front or from the back of a list of n.
@@ -35,9 +40,9 @@ fn place_of(back: bool, n: usize, k: usize) -> usize
 }
 
 // The largest of the cards' latest cycles. The array's fixed length lets the compiler unroll the loop.
-fn largest(latest: &[u16; 32]) -> u16
+fn largest(latest: &[u16; 32]) -> Cycle
     requires { ⌜ length (now latest) ≡ maxCards ⌝ }
-    ensures { λ r. ⌜ r ≡ largest (now (latest .entry)) ⌝ }
+    ensures { λ r. ⌜ r .0 ≡ largest (now (latest .entry)) ⌝ }
 {
     let mut top: u16 = 0;
     let mut c: usize = 0;
@@ -48,13 +53,13 @@ fn largest(latest: &[u16; 32]) -> u16
             top = l;
         }
     }
-    top
+    Cycle(top)
 }
 
 // The cycles made when the last frame has entered, and with the closing cycles.
 pub(crate) struct Cycles {
-    pub(crate) made: u16,
-    pub(crate) all: u16,
+    pub(crate) made: Cycle,
+    pub(crate) all: Cycle,
 }
 
 // Gives each frame of the list, taken from its front or from its back, its cycle of greedyWriting.
@@ -63,26 +68,27 @@ pub(crate) struct Cycles {
 //   waiting    how many frames wait in the pool, with `made` cycles made
 pub(crate) fn pass(cards: &[u8], m: u16, back: bool, out: &mut [u16]) -> Cycles
     requires { ⌜ Asked m (now cards) (now out) ⌝ }
-    ensures { λ r. ⌜ Passed m back (now (cards .entry)) (now (out .entry)) (now (out .exit)) (r .made) (r .all) ⌝ }
+    ensures { λ r. ⌜ Passed m back (now (cards .entry)) (now (out .entry)) (now (out .exit)) (r .made .0) (r .all .0) ⌝ }
 {
     let mut due = [0u16; 4097];
     let mut latest = [0u16; 32];
-    let mut made: u16 = 0;
+    let mut made = Cycle(0);
     let mut waiting: u16 = 0;
     let n = cards.len();
     let mut k: usize = 0;
     while k < n {
         if m <= waiting {
-            made += 1;
+            made.0 += 1;
             waiting -= due[cycle_place(made)];
         }
         let i = place_of(back, n, k);
         let c = card_place(cards[i]);
-        let s = next_cycle(latest[c], made);
+        let last = latest[c];
+        let s = next_cycle(Cycle(last), made);
         let u = cycle_place(s);
-        latest[c] = s;
+        latest[c] = s.0;
         due[u] = due[u] + 1;
-        out[i] = s;
+        out[i] = s.0;
         waiting += 1;
         k += 1;
     }

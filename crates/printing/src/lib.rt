@@ -21,7 +21,7 @@ pub fn print(ticket: &[u8], out: &mut [u8]) -> usize
     let answer = planner::plan(ticket, &mut plan);
     match answer {
         planner::Answer::Refused(number) => lines::refusal(number, out),
-        planner::Answer::Planned(cycles) => lines::plan(ticket, cycles.0, &plan, out),
+        planner::Answer::Planned(cycles) => lines::plan(ticket, cycles, &plan, out),
     }
 }
 

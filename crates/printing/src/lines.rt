@@ -8,6 +8,8 @@ ghost use Rattle.text.specs.Hex.{hex, endOfLine};
 ghost use Rattle.printing.specs.Printed.{printed, refusalText};
 ghost use Rattle.printing.specs.Put.{digitTexts, Made, Put};
 use crate::digits;
+use schedule::Cycle;
+use schedule::Position;
 
 // FF and the number.
 pub(crate) fn refusal(number: u8, out: &mut [u8]) -> usize
@@ -28,24 +30,24 @@ fn frame_line(
     digit: &[u8; 16],
     out: &mut [u8],
     at: usize,
-    position: u16,
+    position: Position,
     high: u8,
     low: u8,
-    cycle: u16,
+    cycle: Cycle,
 )
     requires { ⌜ (now digit ≡ digitTexts) × (at + 11 ≤ length (now out)) ⌝ }
-    ensures { λ r. ⌜ now (out .exit) ≡ sets (now (out .entry)) at (hex 4 position ++ ((high ∷ low ∷ []) ++ (hex 4 cycle ++ endOfLine))) ⌝ }
+    ensures { λ r. ⌜ now (out .exit) ≡ sets (now (out .entry)) at (hex 4 (position .0) ++ ((high ∷ low ∷ []) ++ (hex 4 (cycle .0) ++ endOfLine))) ⌝ }
 {
-    digits::put4(digit, out, at, position);
+    digits::put4(digit, out, at, position.0);
     out[at + 4] = high;
     out[at + 5] = low;
-    digits::put4(digit, out, at + 6, cycle);
+    digits::put4(digit, out, at + 6, cycle.0);
     out[at + 10] = text::END;
 }
 
 // T, and a line for each frame.
-pub(crate) fn plan(ticket: &[u8], cycles: u16, plan: &[u16], out: &mut [u8]) -> usize
-    requires { ⌜ Made (now ticket) cycles (now plan) ⌝ }
+pub(crate) fn plan(ticket: &[u8], cycles: Cycle, plan: &[u16], out: &mut [u8]) -> usize
+    requires { ⌜ Made (now ticket) (cycles .0) (now plan) ⌝ }
     ensures { λ r. ⌜ Put (printed (now (ticket .entry))) (now (out .entry)) (now (out .exit)) r ⌝ }
 {
     let n = (ticket.len() - 15) / 3;
@@ -53,18 +55,20 @@ pub(crate) fn plan(ticket: &[u8], cycles: u16, plan: &[u16], out: &mut [u8]) -> 
         return 0;
     }
     let digit = digits::digit_texts();
-    digits::put4(&digit, out, 0, cycles);
+    digits::put4(&digit, out, 0, cycles.0);
     out[4] = text::END;
     let mut i: usize = 0;
     while i < n {
+        let position = i as u16;
+        let cycle = plan[i];
         frame_line(
             &digit,
             out,
             5 + 11 * i,
-            i as u16,
+            Position(position),
             ticket[15 + 3 * i],
             ticket[16 + 3 * i],
-            plan[i],
+            Cycle(cycle),
         );
         i += 1;
     }

@@ -10,7 +10,7 @@ use Rattle.planner.proofs.modes.keep.Statement.{statement}
 use Rattle.planner.proofs.modes.keep.Tie as tie
 
 abbrev Inv-loop : tie.InvT-loop
-Inv-loop out₀ n made i₀ out i = (i ≤ n) × Replaced (asOf made) i out₀ out
+Inv-loop out₀ n made i₀ out i = (i ≤ n) × Replaced (asOf (made .0)) i out₀ out
 
 abbrev μ-loop : tie.MeasureT-loop
 μ-loop out₀ n made i₀ out i = n - i
@@ -18,11 +18,11 @@ abbrev μ-loop : tie.MeasureT-loop
 loop-holds : tie.Need-loop-holds Inv-loop μ-loop
 loop-holds c = (omega arith, replaced-none _ _)
 
-mul-as-of : tie.Need-mul-as-of Inv-loop μ-loop
-mul-as-of c = omega (arith, c .before .before .before .good)
+mul-cycle : tie.Need-mul-cycle Inv-loop μ-loop
+mul-cycle c = omega (arith, c .before .before .before .good)
 
-slice-read-as-of : tie.Need-slice-read-as-of Inv-loop μ-loop
-slice-read-as-of c = omega (arith, replaced-length (c .before .before .loop .inv .1), c .before .before .before .before .pre)
+slice-read-cycle : tie.Need-slice-read-cycle Inv-loop μ-loop
+slice-read-cycle c = omega (arith, replaced-length (c .before .before .loop .inv .1), c .before .before .before .before .pre)
 
 as-of-requires : tie.Need-as-of-requires Inv-loop μ-loop
 as-of-requires c κs = search needs
@@ -55,8 +55,8 @@ keep-spec =
     Inv-loop
     μ-loop
     loop-holds
-    mul-as-of
-    slice-read-as-of
+    mul-cycle
+    slice-read-cycle
     as-of-requires
     mul-out
     slice-write-out

@@ -15,7 +15,10 @@ same-length : tie.Need-same-length
 same-length c = search needs
 
 returns : tie.Need-returns
-returns c = kept (c .before .before .before .before .before .before .before .before .before .before .pre) (c .before .before .before .before .before .before .pass .ensures) (c .before .before .keep .ensures)
+returns c =
+    let shown = c .before .before .before in
+    let passed = shown .before .before .before .before in
+    kept (passed .before .before .before .before .pre) (passed .pass .ensures) (shown .keep .ensures)
 
 pub keep-plan-spec : {M : Type 1} → statement M
 keep-plan-spec = tie.close (tie.spec pass-requires keep-requires same-length returns)

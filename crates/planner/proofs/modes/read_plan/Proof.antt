@@ -19,8 +19,9 @@ same-length c = search needs
 
 returns : tie.Need-returns
 returns c =
-    let p = c .before .before .before .before .before .before in
-    turned-round (p .before .before .before .before .pre) (p .pass .ensures) (c .before .before .turn-round .ensures)
+    let turned = c .before .before .before in
+    let passed = turned .before .before .before .before in
+    turned-round (passed .before .before .before .before .pre) (passed .pass .ensures) (turned .turn-round .ensures)
 
 pub read-plan-spec : {M : Type 1} → statement M
 read-plan-spec = tie.close (tie.spec pass-requires turn-round-requires same-length returns)

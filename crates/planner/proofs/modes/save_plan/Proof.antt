@@ -12,7 +12,9 @@ same-length : tie.Need-same-length
 same-length c = search needs
 
 returns : tie.Need-returns
-returns c = saved (c .before .before .before .before .before .before .pre) (c .before .before .pass .ensures)
+returns c =
+    let passed = c .before .before .before in
+    saved (passed .before .before .before .before .pre) (passed .pass .ensures)
 
 pub save-plan-spec : {M : Type 1} → statement M
 save-plan-spec = tie.close (tie.spec pass-requires same-length returns)

@@ -9,7 +9,7 @@ use Rattle.planner.proofs.modes.turn_round.Statement.{statement}
 use Rattle.planner.proofs.modes.turn_round.Tie as tie
 
 abbrev Inv-loop : tie.InvT-loop
-Inv-loop out₀ n t i₀ out i = (i ≤ n) × Replaced (λ c. t - c + 1) i out₀ out
+Inv-loop out₀ n t i₀ out i = (i ≤ n) × Replaced (λ c. t .0 - c + 1) i out₀ out
 
 abbrev μ-loop : tie.MeasureT-loop
 μ-loop out₀ n t i₀ out i = n - i
@@ -24,16 +24,20 @@ slice-read-out : tie.Need-slice-read-out Inv-loop μ-loop
 slice-read-out c = omega (arith, replaced-length (c .before .before .loop .inv .1), c .before .before .before .pre .0)
 
 sub-out : tie.Need-sub-out Inv-loop μ-loop
-sub-out c = omega (arith, next-as-before (c .before .before .loop .inv .1), c .before .before .before .pre .2 (c .before .before .loop .i) (omega arith))
+sub-out c =
+    let turn = c .before .before .before in
+    omega (arith, next-as-before (turn .loop .inv .1), turn .before .pre .2 (turn .loop .i) (omega arith))
 
 add-out : tie.Need-add-out Inv-loop μ-loop
 add-out c = search needs
 
 mul-out-2 : tie.Need-mul-out-2 Inv-loop μ-loop
-mul-out-2 c = omega (arith, c .before .before .before .good)
+mul-out-2 c = omega (arith, c .before .before .before .before .good)
 
 slice-write-out : tie.Need-slice-write-out Inv-loop μ-loop
-slice-write-out c = omega (arith, replaced-length (c .before .before .loop .inv .1), c .before .before .before .pre .0)
+slice-write-out c =
+    let turn = c .before .before .before in
+    omega (arith, replaced-length (turn .loop .inv .1), turn .before .pre .0)
 
 add-i : tie.Need-add-i Inv-loop μ-loop
 add-i c = search needs
@@ -42,7 +46,9 @@ loop-less : tie.Need-loop-less Inv-loop μ-loop
 loop-less c = search needs
 
 loop-again : tie.Need-loop-again Inv-loop μ-loop
-loop-again c = (omega arith, replaced-next (c .before .before .loop .inv .1) _ (omega (arith, c .before .before .before .pre .0)) refl)
+loop-again c =
+    let turn = c .before .before .before in
+    (omega arith, replaced-next (turn .loop .inv .1) _ (omega (arith, turn .before .pre .0)) refl)
 
 same-length : tie.Need-same-length Inv-loop μ-loop
 same-length c = replaced-length (c .before .loop .inv .1)

@@ -11,7 +11,7 @@ use Rattle.planner.proofs.pass.pass.Statement.{statement}
 use Rattle.planner.proofs.pass.pass.Tie as tie
 
 abbrev Inv-loop : tie.InvT-loop
-Inv-loop cards m back out₀ due₀ latest₀ made₀ waiting₀ n k₀ out due latest made waiting k = Turn m back cards out₀ out due latest made waiting k
+Inv-loop cards m back out₀ due₀ latest₀ made₀ waiting₀ n k₀ out due latest made waiting k = Turn m back cards out₀ out due latest (made .0) waiting k
 
 abbrev μ-loop : tie.MeasureT-loop
 μ-loop cards m back out₀ due₀ latest₀ made₀ waiting₀ n k₀ out due latest made waiting k = n - k
@@ -19,8 +19,14 @@ abbrev μ-loop : tie.MeasureT-loop
 loop-holds : tie.Need-loop-holds Inv-loop μ-loop
 loop-holds c = tables.first-turn _ _ _ _
 
+-- where the pool is full, a cycle more can be counted
+made-low : (c : tie.Then1 Inv-loop μ-loop) → c .before .before .loop .made .0 < 4096
+made-low c =
+    let turn = c .before .before in
+    tables.made-low (turn .before .before .before .pre) (turn .loop .inv) (c .before .loop-test .taken) (c .if1 .taken)
+
 add-made : tie.Need-add-made Inv-loop μ-loop
-add-made c = omega (arith, tables.made-low (c .before .before .before .before .before .pre) (c .before .before .loop .inv) (c .before .loop-test .taken) (c .if1 .taken))
+add-made c = omega (arith, made-low (c .before))
 
 cycle-place-requires : tie.Need-cycle-place-requires Inv-loop μ-loop
 cycle-place-requires c κs = search needs
@@ -29,22 +35,26 @@ mul-waiting : tie.Need-mul-waiting Inv-loop μ-loop
 mul-waiting c = search needs
 
 array-read-waiting : tie.Need-array-read-waiting Inv-loop μ-loop
-array-read-waiting c = omega (arith, c .cycle-place .ensures, tables.made-low (c .before .before .before .before .before .before .pre) (c .before .before .before .loop .inv) (c .before .before .loop-test .taken) (c .before .if1 .taken))
+array-read-waiting c = omega (arith, c .cycle-place .ensures, made-low (c .before .before))
 
 sub-waiting : tie.Need-sub-waiting Inv-loop μ-loop
-sub-waiting c = rw (c .cycle-place .ensures) (tables.due-le-waiting (c .before .before .before .before .before .before .pre) (c .before .before .before .loop .inv) (c .before .before .loop-test .taken) (c .before .if1 .taken))
+sub-waiting c =
+    let full = c .before .before in
+    let turn = full .before .before in
+    rw (c .cycle-place .ensures)
+    (tables.due-le-waiting (turn .before .before .before .pre) (turn .loop .inv) (full .before .loop-test .taken) (full .if1 .taken))
 
 -- the pool is full and a cycle is made, or there is room
 opened :
     (c : tie.Joined1 Inv-loop μ-loop)
     → Open (c .before .before .before .before .before .args .m) (c .before .before .before .before .before .args .back)
     (now (c .before .before .before .before .before .args .cards)) (c .before .before .loop .out) (c .before .before .loop .due)
-    (c .before .before .loop .latest) (c .if1 .made) (c .if1 .waiting) (c .before .before .loop .k)
+    (c .before .before .loop .latest) (c .if1 .made .0) (c .if1 .waiting) (c .before .before .loop .k)
 opened c =
     let f = c .before .before .before .before .before .pre in
     let v = c .before .before .loop .inv in
     ⊎-elim
-    (λ w. rw (w .2, w .3, w .1 .ensures) (tables.cycle-made f v (c .before .loop-test .taken) (w .0 .taken)))
+    (λ w. rw (w .3, w .4, w .2 .ensures) (tables.cycle-made f v (c .before .loop-test .taken) (w .0 .taken)))
     (λ w. rw (w .1, w .2) (tables.room-left f v (c .before .loop-test .taken) (w .0 .left)))
     (c .if1 .came)
 
@@ -62,14 +72,16 @@ card-in c =
     let f = c .before .before .before .before .before .before .before .before .pre in
     omega (arith, f .each-card (c .before .before .place-of .result) (c .before .before .place-of .ensures .1), c .card-place .ensures)
 
-mul-next-cycle : tie.Need-mul-next-cycle Inv-loop μ-loop
-mul-next-cycle c = omega (arith, card-in c)
+mul-last : tie.Need-mul-last Inv-loop μ-loop
+mul-last c = omega (arith, card-in c)
 
-array-read-next-cycle : tie.Need-array-read-next-cycle Inv-loop μ-loop
-array-read-next-cycle c = card-in c
+array-read-last : tie.Need-array-read-last Inv-loop μ-loop
+array-read-last c = card-in c
 
 next-cycle-requires : tie.Need-next-cycle-requires Inv-loop μ-loop
-next-cycle-requires c κs = omega (arith, opened (c .before .before .before) .latest-low (c .card-place .result), opened (c .before .before .before) .made-low)
+next-cycle-requires c κs =
+    let o = opened (c .before .before .before) in
+    omega (arith, o .latest-low (c .card-place .result), o .made-low)
 
 cycle-place-requires-2 : tie.Need-cycle-place-requires-2 Inv-loop μ-loop
 cycle-place-requires-2 c κs = search needs
@@ -101,10 +113,16 @@ array-write-due : tie.Need-array-write-due Inv-loop μ-loop
 array-write-due c = omega (arith, cycle-in c)
 
 mul-out : tie.Need-mul-out Inv-loop μ-loop
-mul-out c = omega (arith, c .before .before .before .before .place-of .ensures .1, c .before .before .before .before .before .before .before .before .before .before .pre .few)
+mul-out c =
+    let place = c .before .before .before .before in
+    let start = place .before .before .before .before .before .before in
+    omega (arith, place .place-of .ensures .1, start .pre .few)
 
 slice-write-out : tie.Need-slice-write-out Inv-loop μ-loop
-slice-write-out c = omega (arith, c .before .before .before .before .place-of .ensures .1, c .before .before .before .before .before .before .before .loop .inv .same-out, c .before .before .before .before .before .before .before .before .before .before .pre .room)
+slice-write-out c =
+    let place = c .before .before .before .before in
+    let turn = place .before .before .before in
+    omega (arith, place .place-of .ensures .1, turn .loop .inv .same-out, turn .before .before .before .pre .room)
 
 add-waiting : tie.Need-add-waiting Inv-loop μ-loop
 add-waiting c = omega (arith, opened (c .before .before .before .before .before .before) .waiting-low)
@@ -116,7 +134,14 @@ loop-less : tie.Need-loop-less Inv-loop μ-loop
 loop-less c = search needs
 
 loop-again : tie.Need-loop-again Inv-loop μ-loop
-loop-again c = tables.next-turn (c .before .before .before .before .before .before .before .before .before .before .before .pre) (c .before .before .before .before .before .before .before .before .loop .inv) (c .before .before .before .before .before .before .before .loop-test .taken) (opened (c .before .before .before .before .before .before)) (c .before .before .before .before .before .place-of .ensures .0) (c .before .before .before .card-place .ensures) (c .before .before .next-cycle .ensures) (c .before .cycle-place2 .ensures)
+loop-again c =
+    let cycle = c .before .before in
+    let card = cycle .before in
+    let place = card .before .before in
+    let room = place .before in
+    let turn = room .before .before in
+    tables.next-turn (turn .before .before .before .pre) (turn .loop .inv) (room .before .loop-test .taken) (opened room)
+    (place .place-of .ensures .0) (card .card-place .ensures) (cycle .next-cycle .ensures) (c .before .cycle-place2 .ensures)
 
 largest-requires : tie.Need-largest-requires Inv-loop μ-loop
 largest-requires c κs = c .before .before .loop .inv .long-latest
@@ -125,7 +150,9 @@ same-length : tie.Need-same-length Inv-loop μ-loop
 same-length c = c .before .before .before .loop .inv .same-out
 
 returns : tie.Need-returns Inv-loop μ-loop
-returns c = tables.passed (c .before .before .before .before .before .before .pre) (c .before .before .before .loop .inv) (c .before .before .loop-test .left) (c .largest .ensures)
+returns c =
+    let turn = c .before .before .before in
+    tables.passed (turn .before .before .before .pre) (turn .loop .inv) (c .before .before .loop-test .left) (c .largest .ensures)
 
 pub pass-spec : {M : Type 1} → statement M
 pass-spec =
@@ -142,8 +169,8 @@ pass-spec =
     place-of-requires
     shared-slice-read-card-place
     card-place-requires
-    mul-next-cycle
-    array-read-next-cycle
+    mul-last
+    array-read-last
     next-cycle-requires
     cycle-place-requires-2
     mul-latest

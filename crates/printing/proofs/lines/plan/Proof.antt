@@ -11,10 +11,10 @@ use Rattle.printing.proofs.lines.plan.Statement.{statement}
 use Rattle.printing.proofs.lines.plan.Tie as tie
 
 abbrev Inv-loop : tie.InvT-loop
-Inv-loop ticket cycles plan out₀ n digit i₀ out i = (i ≤ n) × (out ≡ sets out₀ 5 (linesFrom ticket plan i))
+Inv-loop ticket plan out₀ n digit i₀ out i = (i ≤ n) × (out ≡ sets out₀ 5 (linesFrom ticket plan i))
 
 abbrev μ-loop : tie.MeasureT-loop
-μ-loop ticket cycles plan out₀ n digit i₀ out i = n - i
+μ-loop ticket plan out₀ n digit i₀ out i = n - i
 
 sub-n : tie.Need-sub-n Inv-loop μ-loop
 sub-n c = omega (arith, long _ _ _ (c .before .before .before .pre))
@@ -40,16 +40,26 @@ slice-write-out c = search needs
 loop-holds : tie.Need-loop-holds Inv-loop μ-loop
 loop-holds c = (omega arith, no-lines _ _ _)
 
+cast-position : tie.Need-cast-position Inv-loop μ-loop
+cast-position c =
+    let head = c .before .before .before .before in
+    let made = head .before .before .before .before .before .before .before .before .pre in
+    omega (arith, long _ _ _ made, frames-few _ _ _ made)
+
+mul-cycle : tie.Need-mul-cycle Inv-loop μ-loop
+mul-cycle c = search needs
+
+shared-slice-read-cycle : tie.Need-shared-slice-read-cycle Inv-loop μ-loop
+shared-slice-read-cycle c =
+    let head = c .before .before .before .before .before in
+    let made = head .before .before .before .before .before .before .before .before .pre in
+    omega (arith, long _ _ _ made, made .room)
+
 mul-frame-line : tie.Need-mul-frame-line Inv-loop μ-loop
 mul-frame-line c = search needs
 
 add-frame-line : tie.Need-add-frame-line Inv-loop μ-loop
 add-frame-line c = search needs
-
-cast-frame-line : tie.Need-cast-frame-line Inv-loop μ-loop
-cast-frame-line c =
-    let start = c .before .before .before .before .before .before .before .before .before .before .before .before .before .before in
-    omega (arith, long _ _ _ (start .pre), frames-few _ _ _ (start .pre))
 
 mul-frame-line-2 : tie.Need-mul-frame-line-2 Inv-loop μ-loop
 mul-frame-line-2 c = search needs
@@ -68,14 +78,6 @@ add-frame-line-3 c = search needs
 
 shared-slice-read-frame-line-2 : tie.Need-shared-slice-read-frame-line-2 Inv-loop μ-loop
 shared-slice-read-frame-line-2 c = search needs
-
-mul-frame-line-4 : tie.Need-mul-frame-line-4 Inv-loop μ-loop
-mul-frame-line-4 c = search needs
-
-shared-slice-read-frame-line-3 : tie.Need-shared-slice-read-frame-line-3 Inv-loop μ-loop
-shared-slice-read-frame-line-3 c =
-    let start = c .before .before .before .before .before .before .before .before .before .before .before .before .before .before .before .before .before in
-    omega (arith, long _ _ _ (start .pre), start .pre .room)
 
 frame-line-requires : tie.Need-frame-line-requires Inv-loop μ-loop
 frame-line-requires c κs =
@@ -129,17 +131,17 @@ plan-spec =
     put4-requires
     slice-write-out
     loop-holds
+    cast-position
+    mul-cycle
+    shared-slice-read-cycle
     mul-frame-line
     add-frame-line
-    cast-frame-line
     mul-frame-line-2
     add-frame-line-2
     shared-slice-read-frame-line
     mul-frame-line-3
     add-frame-line-3
     shared-slice-read-frame-line-2
-    mul-frame-line-4
-    shared-slice-read-frame-line-3
     frame-line-requires
     add-i
     loop-less
