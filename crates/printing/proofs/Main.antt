@@ -8,21 +8,22 @@ use lib.ListN.{length, take}
 use Rattle.schedule.specs.Count.{written}
 use Rattle.ticket.proofs.Main as ticket
 use Rattle.printing.specs.Printed.{textOf, printed, bytesIn, bufferAfter}
+use Rattle.printing.specs.Sizes.{inputBytes, longestText}
 use Rattle.printing.specs.Cases.{Case, cases}
 use Rattle.printing.proofs.Cases as table
 use Rattle.printing.proofs.Short as short
 
 -- "looks at its first 65,536 bytes, which settle every ticket"
-pub front-settles : (t : List ℕ) → printed (take 65536 t) ≡ printed t
-front-settles t = ap textOf (ticket.front-settles 65536 t (omega arith))
+pub front-settles : (t : List ℕ) → printed (take inputBytes t) ≡ printed t
+front-settles t = ap textOf (ticket.front-settles inputBytes t (omega arith))
 
 -- No text is longer than the buffer that the program lends.
-pub room-for-every-text : (t : List ℕ) → length (printed t) ≤ 45061
+pub room-for-every-text : (t : List ℕ) → length (printed t) ≤ longestText
 room-for-every-text = short.room-for-every-text
 
 -- With that room the whole text is printed (`print_whole` says so of each call).
 pub whole-text :
-    (t before : List ℕ) → 45061 ≤ length before
+    (t before : List ℕ) → longestText ≤ length before
     → (bytesIn (printed t) (length before) ≡ length (printed t)) × (bufferAfter (printed t) before ≡ written (printed t) before)
 whole-text = short.whole-text
 

@@ -1,3 +1,4 @@
 pub mod Printed
+pub mod Sizes
 pub mod Put
 pub mod Cases

@@ -1,14 +1,34 @@
 // The printed plan of a ticket, as text in a lent buffer.
 ghost use mathlib.Core.Path.{_≡_};
-ghost use lib.ListN.{length};
+ghost use lib.ListN.{length, replicate};
 ghost use Rattle.schedule.specs.Count.{written};
 ghost use Rattle.printing.specs.Printed.{printed, bytesIn, bufferAfter, Front};
+ghost use Rattle.printing.specs.Sizes.{inputBytes, longestText};
 
 mod digits;
 mod lines;
 
+// The bytes of its input that the program looks at: they settle every ticket (`front-settles`, proofs/Main.antt).
+pub const INPUT: usize = 65536;
+
 // The bytes of the longest text: the line of T, and a line for each of 4,096 frames.
 pub const LONGEST: usize = 45061;
+
+// A buffer for the program's input, all zeros.
+pub fn input_buffer() -> [u8; INPUT]
+    ensures long { λ r. ⌜ inputBytes ≡ length r ⌝ }
+    ensures zeros { λ r. ⌜ r ≡ replicate inputBytes 0 ⌝ }
+{
+    [0; INPUT]
+}
+
+// A buffer with room for every text, all zeros.
+pub fn text_buffer() -> [u8; LONGEST]
+    ensures long { λ r. ⌜ longestText ≡ length r ⌝ }
+    ensures zeros { λ r. ⌜ r ≡ replicate longestText 0 ⌝ }
+{
+    [0; LONGEST]
+}
 
 // Prints the plan of a ticket, or its refusal, over the front of `out`, and answers how many bytes the text has; later places keep their
 // content. Where `out` has no room for the whole text, nothing is printed and the answer is 0.
