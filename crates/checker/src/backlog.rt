@@ -5,19 +5,21 @@ ghost use lib.ListN.{length};
 ghost use Rattle.schedule.specs.Schedule.{oBacklog, iBacklog};
 ghost use Rattle.header.specs.Limits.{maxFrames};
 ghost use Rattle.checker.specs.Parts.{laterUpTo, backlogOf};
+use schedule::Cycle;
 
 // How many frames after frame i have a cycle up to `cycle`.
-pub(crate) fn later_up_to(plan: &[u16], i: usize, cycle: u16) -> u16
+pub(crate) fn later_up_to(plan: &[u16], i: usize, cycle: Cycle) -> u16
     requires { ⌜ (i < length (now plan)) × (length (now plan) ≤ maxFrames) ⌝ }
-    ensures { λ r. ⌜ r ≡ laterUpTo (now (plan .entry)) i cycle ⌝ }
+    ensures { λ r. ⌜ r ≡ laterUpTo (now (plan .entry)) i (cycle .0) ⌝ }
 {
     let n = plan.len();
+    let last = cycle.0;
     let mut count: u16 = 0;
     let mut j = i + 1;
     while j < n {
         let c = plan[j];
         j += 1;
-        if c <= cycle {
+        if c <= last {
             count += 1;
         }
     }
@@ -29,7 +31,7 @@ fn later(plan: &[u16], i: usize) -> u16
     requires { ⌜ (i < length (now plan)) × (length (now plan) ≤ maxFrames) ⌝ }
     ensures { λ r. ⌜ r ≡ iBacklog (now (plan .entry)) i ⌝ }
 {
-    later_up_to(plan, i, plan[i])
+    later_up_to(plan, i, Cycle(plan[i]))
 }
 
 // A save: how many earlier frames have a cycle equal to or later than frame i's.

@@ -6,11 +6,12 @@ ghost use Rattle.schedule.specs.Schedule.{oBacklog, iBacklog};
 ghost use Rattle.schedule.specs.Closed.{readBefore};
 ghost use Rattle.header.specs.Limits.{maxFrames};
 ghost use Rattle.checker.specs.Parts.{Zeroed, Low, Tallied, Table, Bounds, mostOf};
+use schedule::Cycle;
 
-fn place_of(cycle: u16) -> usize
-    ensures { λ r. ⌜ r ≡ cycle ⌝ }
+fn place_of(cycle: Cycle) -> usize
+    ensures { λ r. ⌜ r ≡ cycle .0 ⌝ }
 {
-    cycle as usize
+    cycle.0 as usize
 }
 
 // Counts the frames of each cycle, one place further on.
@@ -21,16 +22,17 @@ fn tally(plan: &[u16], table: &mut [u16])
     let n = plan.len();
     let mut i: usize = 0;
     while i < n {
-        let c = place_of(plan[i]) + 1;
+        let cycle = plan[i];
+        let c = place_of(Cycle(cycle)) + 1;
         table[c] = table[c] + 1;
         i += 1;
     }
 }
 
 // Adds the counts up, to the place after the largest cycle.
-fn add_up(plan: &[u16], top: u16, table: &mut [u16])
-    requires { ⌜ Tallied (now plan) (now table) × Low (now plan) top ⌝ }
-    ensures { λ r. ⌜ Table (now (plan .entry)) (now (table .exit)) top ⌝ }
+fn add_up(plan: &[u16], top: Cycle, table: &mut [u16])
+    requires { ⌜ Tallied (now plan) (now table) × Low (now plan) (top .0) ⌝ }
+    ensures { λ r. ⌜ Table (now (plan .entry)) (now (table .exit)) (top .0) ⌝ }
 {
     let n = place_of(top) + 2;
     let mut sum: u16 = 0;
@@ -43,9 +45,9 @@ fn add_up(plan: &[u16], top: u16, table: &mut [u16])
 }
 
 // Fills a table of zeros with how many frames have a cycle before each cycle.
-pub(crate) fn fill(plan: &[u16], top: u16, table: &mut [u16])
-    requires { ⌜ Zeroed (now table) × Low (now plan) top ⌝ }
-    ensures { λ r. ⌜ Table (now (plan .entry)) (now (table .exit)) top ⌝ }
+pub(crate) fn fill(plan: &[u16], top: Cycle, table: &mut [u16])
+    requires { ⌜ Zeroed (now table) × Low (now plan) (top .0) ⌝ }
+    ensures { λ r. ⌜ Table (now (plan .entry)) (now (table .exit)) (top .0) ⌝ }
 {
     tally(plan, table);
     add_up(plan, top, table);
@@ -58,8 +60,8 @@ pub(crate) struct Most {
 }
 
 // A read. `ceiling` is one more than the largest cycle so far, 0 before the first frame.
-pub(crate) fn most_of_read(plan: &[u16], top: u16, table: &[u16]) -> Most
-    requires { ⌜ Table (now plan) (now table) top ⌝ }
+pub(crate) fn most_of_read(plan: &[u16], top: Cycle, table: &[u16]) -> Most
+    requires { ⌜ Table (now plan) (now table) (top .0) ⌝ }
     ensures { λ r. ⌜ (r .backlog ≡ mostOf iBacklog (now (plan .entry))) × (r .before ≡ mostOf readBefore (now (plan .entry))) ⌝ }
 {
     let n = plan.len();
@@ -68,7 +70,8 @@ pub(crate) fn most_of_read(plan: &[u16], top: u16, table: &[u16]) -> Most
     let mut before: u16 = 0;
     let mut i: usize = 0;
     while i < n {
-        let c = place_of(plan[i]);
+        let cycle = plan[i];
+        let c = place_of(Cycle(cycle));
         let at = i as u16;
         i += 1;
         if ceiling <= c {
@@ -84,8 +87,8 @@ pub(crate) fn most_of_read(plan: &[u16], top: u16, table: &[u16]) -> Most
 }
 
 // A save. `floor` is the smallest cycle of the later frames, 4,097 behind the last.
-pub(crate) fn most_of_save(plan: &[u16], top: u16, table: &[u16]) -> u16
-    requires { ⌜ Table (now plan) (now table) top ⌝ }
+pub(crate) fn most_of_save(plan: &[u16], top: Cycle, table: &[u16]) -> u16
+    requires { ⌜ Table (now plan) (now table) (top .0) ⌝ }
     ensures { λ r. ⌜ Bounds oBacklog (now (plan .entry)) r ⌝ }
 {
     let mut floor: usize = 4097;
@@ -93,7 +96,8 @@ pub(crate) fn most_of_save(plan: &[u16], top: u16, table: &[u16]) -> u16
     let mut i: usize = plan.len();
     while 0 < i {
         i -= 1;
-        let c = place_of(plan[i]);
+        let cycle = plan[i];
+        let c = place_of(Cycle(cycle));
         if c < floor {
             floor = c;
             most = schedule::larger(most, (i as u16) - table[c]);

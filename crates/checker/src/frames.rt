@@ -40,11 +40,11 @@ fn shared(cards: &[u8], plan: &[u16], i: usize) -> bool
 }
 
 // The same, where no earlier frame of the card has a cycle after `latest`: most frames need no search.
-fn shares_card(cards: &[u8], plan: &[u16], i: usize, latest: u16) -> bool
-    requires { ⌜ (i < length (now cards)) × (length (now plan) ≡ length (now cards)) × NoneAfter (now cards) (now plan) i latest ⌝ }
+fn shares_card(cards: &[u8], plan: &[u16], i: usize, latest: Cycle) -> bool
+    requires { ⌜ (i < length (now cards)) × (length (now plan) ≡ length (now cards)) × NoneAfter (now cards) (now plan) i (latest .0) ⌝ }
     ensures { λ r. ⌜ r ≡ shares (now (cards .entry)) (now (plan .entry)) i ⌝ }
 {
-    if latest < plan[i] {
+    if latest.0 < plan[i] {
         return false;
     }
     shared(cards, plan, i)
@@ -69,9 +69,9 @@ fn frame(
     plan: &[u16],
     m: u16,
     i: usize,
-    latest: u16,
+    latest: Cycle,
 ) -> Verdict
-    requires { ⌜ Checking (now cards) (now plan) × (i < length (now cards)) × NoneAfter (now cards) (now plan) i latest × (roomy ≡ true → Roomy save m (now plan)) ⌝ }
+    requires { ⌜ Checking (now cards) (now plan) × (i < length (now cards)) × NoneAfter (now cards) (now plan) i (latest .0) × (roomy ≡ true → Roomy save m (now plan)) ⌝ }
     ensures { λ r. ⌜ r ≡ frameVerdict save m (now (cards .entry)) (now (plan .entry)) i ⌝ }
 {
     let p = Position(i as u16);
@@ -112,7 +112,7 @@ pub(crate) fn first_fault(save: bool, roomy: bool, cards: &[u8], plan: &[u16], m
         let c = card_place(cards[i]);
         let late = latest[c];
         latest[c] = schedule::larger(late, plan[i]);
-        let v = frame(save, roomy, cards, plan, m, i, late);
+        let v = frame(save, roomy, cards, plan, m, i, Cycle(late));
         i += 1;
         if !is_valid(v) {
             return v;

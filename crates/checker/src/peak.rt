@@ -7,6 +7,7 @@ ghost use Rattle.schedule.specs.Closed.{readBefore};
 ghost use Rattle.header.specs.Limits.{maxFrames};
 ghost use Rattle.checker.specs.Parts.{mostOf};
 use crate::backlog;
+use schedule::Cycle;
 
 // The most frames that are read before an earlier one.
 pub(crate) fn counted(plan: &[u16]) -> u16
@@ -17,7 +18,8 @@ pub(crate) fn counted(plan: &[u16]) -> u16
     let mut most: u16 = 0;
     let mut i: usize = 0;
     while i < n {
-        most = schedule::larger(most, backlog::later_up_to(plan, i, plan[i] - 1));
+        let one_before = plan[i] - 1;
+        most = schedule::larger(most, backlog::later_up_to(plan, i, Cycle(one_before)));
         i += 1;
     }
     most

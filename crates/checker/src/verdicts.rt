@@ -16,19 +16,19 @@ use header::limits;
 use schedule::Cycle;
 
 // A valid verdict gets its T and peak; a fault stays.
-fn complete(v: Verdict, top: u16, peak: u16) -> Verdict
-    ensures { λ r. ⌜ r ≡ completed v top peak ⌝ }
+fn complete(v: Verdict, top: Cycle, peak: u16) -> Verdict
+    ensures { λ r. ⌜ r ≡ completed v (top .0) peak ⌝ }
 {
     if frames::is_valid(v) {
-        Verdict::Valid(Cycle(top), peak)
+        Verdict::Valid(top, peak)
     } else {
         v
     }
 }
 
 // A plan whose cycles are up to 4,096: the pool rule and the peak from a table.
-fn judge_read(cards: &[u8], plan: &[u16], m: u16, top: u16) -> Verdict
-    requires { ⌜ Checking (now cards) (now plan) × (top ≡ cyclesIn (now plan)) × (top ≤ maxFrames) ⌝ }
+fn judge_read(cards: &[u8], plan: &[u16], m: u16, top: Cycle) -> Verdict
+    requires { ⌜ Checking (now cards) (now plan) × (top .0 ≡ cyclesIn (now plan)) × (top .0 ≤ maxFrames) ⌝ }
     ensures { λ r. ⌜ r ≡ answerOf (verdictOn false m (now (cards .entry)) (now (plan .entry))) ⌝ }
 {
     let mut table = [0u16; 4098];
@@ -38,8 +38,8 @@ fn judge_read(cards: &[u8], plan: &[u16], m: u16, top: u16) -> Verdict
     complete(v, top, most.before)
 }
 
-fn judge_save(cards: &[u8], plan: &[u16], m: u16, top: u16) -> Verdict
-    requires { ⌜ Checking (now cards) (now plan) × (top ≡ cyclesIn (now plan)) × (top ≤ maxFrames) ⌝ }
+fn judge_save(cards: &[u8], plan: &[u16], m: u16, top: Cycle) -> Verdict
+    requires { ⌜ Checking (now cards) (now plan) × (top .0 ≡ cyclesIn (now plan)) × (top .0 ≤ maxFrames) ⌝ }
     ensures { λ r. ⌜ r ≡ answerOf (verdictOn true m (now (cards .entry)) (now (plan .entry))) ⌝ }
 {
     let mut table = [0u16; 4098];
@@ -50,8 +50,8 @@ fn judge_save(cards: &[u8], plan: &[u16], m: u16, top: u16) -> Verdict
 }
 
 // A plan with larger cycles: every pool is counted.
-fn judge_large(save: bool, cards: &[u8], plan: &[u16], m: u16, top: u16) -> Verdict
-    requires { ⌜ Checking (now cards) (now plan) × (top ≡ cyclesIn (now plan)) ⌝ }
+fn judge_large(save: bool, cards: &[u8], plan: &[u16], m: u16, top: Cycle) -> Verdict
+    requires { ⌜ Checking (now cards) (now plan) × (top .0 ≡ cyclesIn (now plan)) ⌝ }
     ensures { λ r. ⌜ r ≡ answerOf (verdictOn save m (now (cards .entry)) (now (plan .entry))) ⌝ }
 {
     let v = frames::first_fault(save, false, cards, plan, m);
@@ -59,9 +59,9 @@ fn judge_large(save: bool, cards: &[u8], plan: &[u16], m: u16, top: u16) -> Verd
         return v;
     }
     if save {
-        return Verdict::Valid(Cycle(top), 0);
+        return Verdict::Valid(top, 0);
     }
-    Verdict::Valid(Cycle(top), peak::counted(plan))
+    Verdict::Valid(top, peak::counted(plan))
 }
 
 pub(crate) fn judge(save: bool, cards: &[u8], plan: &[u16], m: u16) -> Verdict
@@ -69,7 +69,7 @@ pub(crate) fn judge(save: bool, cards: &[u8], plan: &[u16], m: u16) -> Verdict
     ensures { λ r. ⌜ r ≡ answerOf (verdictOn save m (now (cards .entry)) (now (plan .entry))) ⌝ }
 {
     let top = schedule::cycles_in(plan);
-    if limits::MAX_FRAMES < top {
+    if limits::MAX_FRAMES < top.0 {
         return judge_large(save, cards, plan, m, top);
     }
     if save {

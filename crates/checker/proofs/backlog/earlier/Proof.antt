@@ -35,19 +35,28 @@ add-j : tie.Need-add-j Inv-loop μ-loop
 add-j c = search needs
 
 add-count : tie.Need-add-count Inv-loop μ-loop
-add-count c = omega (arith, earlier-le (c .before .before .before .loop .inv), c .before .before .before .loop .inv .inside, c .before .before .before .before .before .pre)
+add-count c =
+    let inv = c .before .before .before .loop .inv in
+    let pre = c .before .before .before .before .before .pre in
+    omega (arith, earlier-le inv, inv .inside, pre)
 
 loop-less : tie.Need-loop-less Inv-loop μ-loop
 loop-less c = search needs
 
 loop-again : tie.Need-loop-again Inv-loop μ-loop
-loop-again c = earlier-counts (c .before .before .before .loop .inv) (c .before .before .loop-test .taken) (c .if1 .taken)
+loop-again c =
+    let inv = c .before .before .before .loop .inv in
+    let inside = c .before .before .loop-test .taken in
+    earlier-counts inv inside (c .if1 .taken)
 
 loop-less-2 : tie.Need-loop-less-2 Inv-loop μ-loop
 loop-less-2 c = search needs
 
 loop-again-2 : tie.Need-loop-again-2 Inv-loop μ-loop
-loop-again-2 c = earlier-skips (c .before .before .before .loop .inv) (c .before .before .loop-test .taken) (c .if1 .left)
+loop-again-2 c =
+    let inv = c .before .before .before .loop .inv in
+    let inside = c .before .before .loop-test .taken in
+    earlier-skips inv inside (c .if1 .left)
 
 returns : tie.Need-returns Inv-loop μ-loop
 returns c = earlier-all (c .before .loop .inv) (c .loop-test .left)

@@ -9,10 +9,10 @@ use Rattle.checker.proofs.backlog.later_up_to.Statement.{statement}
 use Rattle.checker.proofs.backlog.later_up_to.Tie as tie
 
 abbrev Inv-loop : tie.InvT-loop
-Inv-loop plan i cycle n count₀ j₀ count j = Later plan cycle i j count
+Inv-loop plan i n last count₀ j₀ count j = Later plan last i j count
 
 abbrev μ-loop : tie.MeasureT-loop
-μ-loop plan i cycle n count₀ j₀ count j = n - j
+μ-loop plan i n last count₀ j₀ count j = n - j
 
 add-j : tie.Need-add-j Inv-loop μ-loop
 add-j c = search needs
@@ -30,19 +30,28 @@ add-j-2 : tie.Need-add-j-2 Inv-loop μ-loop
 add-j-2 c = search needs
 
 add-count : tie.Need-add-count Inv-loop μ-loop
-add-count c = omega (arith, later-le (c .before .before .before .loop .inv), c .before .before .before .before .pre)
+add-count c =
+    let inv = c .before .before .before .loop .inv in
+    let pre = c .before .before .before .before .pre in
+    omega (arith, later-le inv, pre)
 
 loop-less : tie.Need-loop-less Inv-loop μ-loop
 loop-less c = search needs
 
 loop-again : tie.Need-loop-again Inv-loop μ-loop
-loop-again c = later-counts (c .before .before .before .loop .inv) (c .before .before .loop-test .taken) (c .if1 .taken)
+loop-again c =
+    let inv = c .before .before .before .loop .inv in
+    let inside = c .before .before .loop-test .taken in
+    later-counts inv inside (c .if1 .taken)
 
 loop-less-2 : tie.Need-loop-less-2 Inv-loop μ-loop
 loop-less-2 c = search needs
 
 loop-again-2 : tie.Need-loop-again-2 Inv-loop μ-loop
-loop-again-2 c = later-skips (c .before .before .before .loop .inv) (c .before .before .loop-test .taken) (c .if1 .left)
+loop-again-2 c =
+    let inv = c .before .before .before .loop .inv in
+    let inside = c .before .before .loop-test .taken in
+    later-skips inv inside (c .if1 .left)
 
 returns : tie.Need-returns Inv-loop μ-loop
 returns c = later-all (c .before .loop .inv) (c .loop-test .left)

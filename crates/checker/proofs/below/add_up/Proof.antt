@@ -9,10 +9,10 @@ use Rattle.checker.proofs.below.add_up.Statement.{statement}
 use Rattle.checker.proofs.below.add_up.Tie as tie
 
 abbrev Inv-loop : tie.InvT-loop
-Inv-loop plan top table₀ n sum₀ c₀ table sum c = (c ≤ n) × Adding plan table c sum
+Inv-loop plan table₀ n sum₀ c₀ table sum c = (c ≤ n) × Adding plan table c sum
 
 abbrev μ-loop : tie.MeasureT-loop
-μ-loop plan top table₀ n sum₀ c₀ table sum c = n - c
+μ-loop plan table₀ n sum₀ c₀ table sum c = n - c
 
 place-of-requires : tie.Need-place-of-requires Inv-loop μ-loop
 place-of-requires c κs = search needs
@@ -24,19 +24,37 @@ loop-holds : tie.Need-loop-holds Inv-loop μ-loop
 loop-holds c = (omega arith, add-first _ _ (c .before .before .before .pre .0))
 
 mul-sum : tie.Need-mul-sum Inv-loop μ-loop
-mul-sum c = omega (arith, c .before .before .place-of .ensures, c .before .before .before .before .before .pre .1 .top-low)
+mul-sum c =
+    let low = c .before .before .before .before .before .pre .1 in
+    let top-is = c .before .before .place-of .ensures in
+    omega (arith, top-is, low .top-low)
 
 slice-read-sum : tie.Need-slice-read-sum Inv-loop μ-loop
-slice-read-sum c = omega (arith, c .before .before .before .place-of .ensures, c .before .before .before .before .before .before .pre .1 .top-low, c .before .before .loop .inv .1 .long)
+slice-read-sum c =
+    let inv = c .before .before .loop .inv .1 in
+    let low = c .before .before .before .before .before .before .pre .1 in
+    let top-is = c .before .before .before .place-of .ensures in
+    omega (arith, top-is, low .top-low, inv .long)
 
 add-sum : tie.Need-add-sum Inv-loop μ-loop
-add-sum c = omega (arith, add-small (c .before .before .loop .inv .1) (omega (arith, c .before .before .before .place-of .ensures, c .before .before .before .before .before .before .pre .1 .top-low)), c .before .before .before .before .before .before .pre .1 .few)
+add-sum c =
+    let inv = c .before .before .loop .inv .1 in
+    let low = c .before .before .before .before .before .before .pre .1 in
+    let top-is = c .before .before .before .place-of .ensures in
+    omega (arith, add-small inv (omega (arith, top-is, low .top-low)), low .few)
 
 mul-table : tie.Need-mul-table Inv-loop μ-loop
-mul-table c = omega (arith, c .before .before .before .place-of .ensures, c .before .before .before .before .before .before .pre .1 .top-low)
+mul-table c =
+    let low = c .before .before .before .before .before .before .pre .1 in
+    let top-is = c .before .before .before .place-of .ensures in
+    omega (arith, top-is, low .top-low)
 
 slice-write-table : tie.Need-slice-write-table Inv-loop μ-loop
-slice-write-table c = omega (arith, c .before .before .before .place-of .ensures, c .before .before .before .before .before .before .pre .1 .top-low, c .before .before .loop .inv .1 .long)
+slice-write-table c =
+    let inv = c .before .before .loop .inv .1 in
+    let low = c .before .before .before .before .before .before .pre .1 in
+    let top-is = c .before .before .before .place-of .ensures in
+    omega (arith, top-is, low .top-low, inv .long)
 
 add-c : tie.Need-add-c Inv-loop μ-loop
 add-c c = search needs
@@ -45,13 +63,21 @@ loop-less : tie.Need-loop-less Inv-loop μ-loop
 loop-less c = search needs
 
 loop-again : tie.Need-loop-again Inv-loop μ-loop
-loop-again c = (omega arith, add-next (c .before .before .loop .inv .1) (omega (arith, c .before .before .before .place-of .ensures, c .before .before .before .before .before .before .pre .1 .top-low)))
+loop-again c =
+    let inv = c .before .before .loop .inv .1 in
+    let low = c .before .before .before .before .before .before .pre .1 in
+    let top-is = c .before .before .before .place-of .ensures in
+    (omega arith, add-next inv (omega (arith, top-is, low .top-low)))
 
 same-length : tie.Need-same-length Inv-loop μ-loop
 same-length c = c .before .loop .inv .1 .long ∙ sym (c .before .before .before .before .before .pre .0 .long)
 
 returns : tie.Need-returns Inv-loop μ-loop
-returns c = added (c .before .loop .inv .1) _ (c .before .before .before .before .before .pre .1) (omega (arith, c .before .before .place-of .ensures))
+returns c =
+    let inv = c .before .loop .inv .1 in
+    let low = c .before .before .before .before .before .pre .1 in
+    let top-is = c .before .before .place-of .ensures in
+    added inv _ low (omega (arith, top-is))
 
 pub add-up-spec : {M : Type 1} → statement M
 add-up-spec =

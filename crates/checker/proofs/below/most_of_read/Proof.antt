@@ -9,19 +9,19 @@ use Rattle.checker.proofs.below.most_of_read.Statement.{statement}
 use Rattle.checker.proofs.below.most_of_read.Tie as tie
 
 abbrev Inv-loop : tie.InvT-loop
-Inv-loop plan top table n ceiling₀ backlog₀ before₀ i₀ ceiling backlog before i = ReadTurn plan i ceiling backlog before
+Inv-loop plan table n ceiling₀ backlog₀ before₀ i₀ ceiling backlog before i = ReadTurn plan i ceiling backlog before
 
 abbrev μ-loop : tie.MeasureT-loop
-μ-loop plan top table n ceiling₀ backlog₀ before₀ i₀ ceiling backlog before i = n - i
+μ-loop plan table n ceiling₀ backlog₀ before₀ i₀ ceiling backlog before i = n - i
 
 loop-holds : tie.Need-loop-holds Inv-loop μ-loop
 loop-holds c = read-first _
 
-mul-place-of : tie.Need-mul-place-of Inv-loop μ-loop
-mul-place-of c = search needs
+mul-cycle : tie.Need-mul-cycle Inv-loop μ-loop
+mul-cycle c = search needs
 
-shared-slice-read-place-of : tie.Need-shared-slice-read-place-of Inv-loop μ-loop
-shared-slice-read-place-of c = search needs
+shared-slice-read-cycle : tie.Need-shared-slice-read-cycle Inv-loop μ-loop
+shared-slice-read-cycle c = search needs
 
 place-of-requires : tie.Need-place-of-requires Inv-loop μ-loop
 place-of-requires c κs = search needs
@@ -33,34 +33,85 @@ add-i : tie.Need-add-i Inv-loop μ-loop
 add-i c = search needs
 
 add-ceiling : tie.Need-add-ceiling Inv-loop μ-loop
-add-ceiling c = omega (arith, place-inside (c .before .before .before .before .loop .inv) (c .before .before .before .loop-test .taken) (c .before .place-of .ensures) (c .before .before .before .before .before .before .before .pre) (c .if1 .taken), c .before .before .before .before .before .before .before .pre .long)
+add-ceiling c =
+    let inv = c .before .before .before .before .loop .inv in
+    let table = c .before .before .before .before .before .before .before .pre in
+    let inside = c .before .before .before .loop-test .taken in
+    let place-is = c .before .place-of .ensures in
+    omega (arith, place-inside inv inside place-is table (c .if1 .taken), table .long)
 
 add-larger : tie.Need-add-larger Inv-loop μ-loop
-add-larger c = omega (arith, place-inside (c .before .before .before .before .loop .inv) (c .before .before .before .loop-test .taken) (c .before .place-of .ensures) (c .before .before .before .before .before .before .before .pre) (c .if1 .taken), c .before .before .before .before .before .before .before .pre .long)
+add-larger c =
+    let inv = c .before .before .before .before .loop .inv in
+    let table = c .before .before .before .before .before .before .before .pre in
+    let inside = c .before .before .before .loop-test .taken in
+    let place-is = c .before .place-of .ensures in
+    omega (arith, place-inside inv inside place-is table (c .if1 .taken), table .long)
 
 mul-larger : tie.Need-mul-larger Inv-loop μ-loop
-mul-larger c = omega (arith, place-inside (c .before .before .before .before .loop .inv) (c .before .before .before .loop-test .taken) (c .before .place-of .ensures) (c .before .before .before .before .before .before .before .pre) (c .if1 .taken), c .before .before .before .before .before .before .before .pre .long)
+mul-larger c =
+    let inv = c .before .before .before .before .loop .inv in
+    let table = c .before .before .before .before .before .before .before .pre in
+    let inside = c .before .before .before .loop-test .taken in
+    let place-is = c .before .place-of .ensures in
+    omega (arith, place-inside inv inside place-is table (c .if1 .taken), table .long)
 
 shared-slice-read-larger : tie.Need-shared-slice-read-larger Inv-loop μ-loop
-shared-slice-read-larger c = place-inside (c .before .before .before .before .before .loop .inv) (c .before .before .before .before .loop-test .taken) (c .before .before .place-of .ensures) (c .before .before .before .before .before .before .before .before .pre) (c .before .if1 .taken)
+shared-slice-read-larger c =
+    let inv = c .before .before .before .before .before .loop .inv in
+    let table = c .before .before .before .before .before .before .before .before .pre in
+    let inside = c .before .before .before .before .loop-test .taken in
+    let place-is = c .before .before .place-of .ensures in
+    let larger = c .before .if1 .taken in
+    place-inside inv inside place-is table larger
 
 sub-larger : tie.Need-sub-larger Inv-loop μ-loop
-sub-larger c = omega (arith, entry-after (c .before .before .before .before .before .loop .inv) (c .before .before .before .before .loop-test .taken) (c .before .before .place-of .ensures) (c .before .before .before .before .before .before .before .before .pre) (c .before .if1 .taken))
+sub-larger c =
+    let inv = c .before .before .before .before .before .loop .inv in
+    let table = c .before .before .before .before .before .before .before .before .pre in
+    let inside = c .before .before .before .before .loop-test .taken in
+    let place-is = c .before .before .place-of .ensures in
+    let larger = c .before .if1 .taken in
+    omega (arith, entry-after inv inside place-is table larger)
 
 sub-larger-2 : tie.Need-sub-larger-2 Inv-loop μ-loop
-sub-larger-2 c = omega (arith, entry-after (c .before .before .before .before .before .loop .inv) (c .before .before .before .before .loop-test .taken) (c .before .before .place-of .ensures) (c .before .before .before .before .before .before .before .before .pre) (c .before .if1 .taken))
+sub-larger-2 c =
+    let inv = c .before .before .before .before .before .loop .inv in
+    let table = c .before .before .before .before .before .before .before .before .pre in
+    let inside = c .before .before .before .before .loop-test .taken in
+    let place-is = c .before .before .place-of .ensures in
+    let larger = c .before .if1 .taken in
+    omega (arith, entry-after inv inside place-is table larger)
 
 larger-requires : tie.Need-larger-requires Inv-loop μ-loop
 larger-requires c κs = search needs
 
 mul-larger-2 : tie.Need-mul-larger-2 Inv-loop μ-loop
-mul-larger-2 c = omega (arith, place-inside (c .before .before .before .before .before .before .loop .inv) (c .before .before .before .before .before .loop-test .taken) (c .before .before .before .place-of .ensures) (c .before .before .before .before .before .before .before .before .before .pre) (c .before .before .if1 .taken), c .before .before .before .before .before .before .before .before .before .pre .long)
+mul-larger-2 c =
+    let inv = c .before .before .before .before .before .before .loop .inv in
+    let table = c .before .before .before .before .before .before .before .before .before .pre in
+    let inside = c .before .before .before .before .before .loop-test .taken in
+    let place-is = c .before .before .before .place-of .ensures in
+    let larger = c .before .before .if1 .taken in
+    omega (arith, place-inside inv inside place-is table larger, table .long)
 
 shared-slice-read-larger-2 : tie.Need-shared-slice-read-larger-2 Inv-loop μ-loop
-shared-slice-read-larger-2 c = omega (arith, place-inside (c .before .before .before .before .before .before .before .loop .inv) (c .before .before .before .before .before .before .loop-test .taken) (c .before .before .before .before .place-of .ensures) (c .before .before .before .before .before .before .before .before .before .before .pre) (c .before .before .before .if1 .taken))
+shared-slice-read-larger-2 c =
+    let inv = c .before .before .before .before .before .before .before .loop .inv in
+    let table = c .before .before .before .before .before .before .before .before .before .before .pre in
+    let inside = c .before .before .before .before .before .before .loop-test .taken in
+    let place-is = c .before .before .before .before .place-of .ensures in
+    let larger = c .before .before .before .if1 .taken in
+    omega (arith, place-inside inv inside place-is table larger)
 
 sub-larger-3 : tie.Need-sub-larger-3 Inv-loop μ-loop
-sub-larger-3 c = omega (arith, entry-at (c .before .before .before .before .before .before .before .loop .inv) (c .before .before .before .before .before .before .loop-test .taken) (c .before .before .before .before .place-of .ensures) (c .before .before .before .before .before .before .before .before .before .before .pre) (c .before .before .before .if1 .taken))
+sub-larger-3 c =
+    let inv = c .before .before .before .before .before .before .before .loop .inv in
+    let table = c .before .before .before .before .before .before .before .before .before .before .pre in
+    let inside = c .before .before .before .before .before .before .loop-test .taken in
+    let place-is = c .before .before .before .before .place-of .ensures in
+    let larger = c .before .before .before .if1 .taken in
+    omega (arith, entry-at inv inside place-is table larger)
 
 larger-requires-2 : tie.Need-larger-requires-2 Inv-loop μ-loop
 larger-requires-2 c κs = search needs
@@ -69,13 +120,23 @@ loop-less : tie.Need-loop-less Inv-loop μ-loop
 loop-less c = fewer-left _ _ (c .before .before .before .before .before .before .before .loop-test .taken)
 
 loop-again : tie.Need-loop-again Inv-loop μ-loop
-loop-again c = read-ahead (c .before .before .before .before .before .before .before .before .loop .inv) (c .before .before .before .before .before .before .before .loop-test .taken) (c .before .before .before .before .before .place-of .ensures) (c .before .before .before .before .before .before .before .before .before .before .before .pre) (c .before .before .before .before .if1 .taken) (c .before .before .larger .ensures) (c .larger2 .ensures)
+loop-again c =
+    let inv = c .before .before .before .before .before .before .before .before .loop .inv in
+    let table = c .before .before .before .before .before .before .before .before .before .before .before .pre in
+    let inside = c .before .before .before .before .before .before .before .loop-test .taken in
+    let place-is = c .before .before .before .before .before .place-of .ensures in
+    let larger = c .before .before .before .before .if1 .taken in
+    read-ahead inv inside place-is table larger (c .before .before .larger .ensures) (c .larger2 .ensures)
 
 loop-less-2 : tie.Need-loop-less-2 Inv-loop μ-loop
 loop-less-2 c = search needs
 
 loop-again-2 : tie.Need-loop-again-2 Inv-loop μ-loop
-loop-again-2 c = read-covered (c .before .before .before .before .loop .inv) (c .before .before .before .loop-test .taken) (c .before .place-of .ensures) (c .if1 .left)
+loop-again-2 c =
+    let inv = c .before .before .before .before .loop .inv in
+    let inside = c .before .before .before .loop-test .taken in
+    let place-is = c .before .place-of .ensures in
+    read-covered inv inside place-is (c .if1 .left)
 
 returns : tie.Need-returns Inv-loop μ-loop
 returns c = read-most (c .before .loop .inv) (c .loop-test .left)
@@ -87,8 +148,8 @@ most-of-read-spec =
     Inv-loop
     μ-loop
     loop-holds
-    mul-place-of
-    shared-slice-read-place-of
+    mul-cycle
+    shared-slice-read-cycle
     place-of-requires
     cast-at
     add-i

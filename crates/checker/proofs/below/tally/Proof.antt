@@ -17,32 +17,60 @@ abbrev μ-loop : tie.MeasureT-loop
 loop-holds : tie.Need-loop-holds Inv-loop μ-loop
 loop-holds c = tally-first _ _ (c .before .before .pre .0)
 
-mul-place-of : tie.Need-mul-place-of Inv-loop μ-loop
-mul-place-of c = search needs
+mul-cycle : tie.Need-mul-cycle Inv-loop μ-loop
+mul-cycle c = search needs
 
-shared-slice-read-place-of : tie.Need-shared-slice-read-place-of Inv-loop μ-loop
-shared-slice-read-place-of c = search needs
+shared-slice-read-cycle : tie.Need-shared-slice-read-cycle Inv-loop μ-loop
+shared-slice-read-cycle c = search needs
 
 place-of-requires : tie.Need-place-of-requires Inv-loop μ-loop
 place-of-requires c κs = search needs
 
 add-c : tie.Need-add-c Inv-loop μ-loop
-add-c c = omega (arith, tally-place (c .before .before .before .loop .inv) (c .before .before .before .before .before .before .pre .1) (c .before .before .loop-test .taken) (c .place-of .ensures))
+add-c c =
+    let inv = c .before .before .before .loop .inv in
+    let low = c .before .before .before .before .before .before .pre .1 in
+    let inside = c .before .before .loop-test .taken in
+    omega (arith, tally-place inv low inside (c .place-of .ensures))
 
 mul-table : tie.Need-mul-table Inv-loop μ-loop
-mul-table c = omega (arith, tally-place (c .before .before .before .loop .inv) (c .before .before .before .before .before .before .pre .1) (c .before .before .loop-test .taken) (c .place-of .ensures))
+mul-table c =
+    let inv = c .before .before .before .loop .inv in
+    let low = c .before .before .before .before .before .before .pre .1 in
+    let inside = c .before .before .loop-test .taken in
+    omega (arith, tally-place inv low inside (c .place-of .ensures))
 
 slice-read-table : tie.Need-slice-read-table Inv-loop μ-loop
-slice-read-table c = omega (arith, tally-place (c .before .before .before .before .loop .inv) (c .before .before .before .before .before .before .before .pre .1) (c .before .before .before .loop-test .taken) (c .before .place-of .ensures), c .before .before .before .before .loop .inv .long)
+slice-read-table c =
+    let inv = c .before .before .before .before .loop .inv in
+    let low = c .before .before .before .before .before .before .before .pre .1 in
+    let inside = c .before .before .before .loop-test .taken in
+    let place-is = c .before .place-of .ensures in
+    omega (arith, tally-place inv low inside place-is, inv .long)
 
 add-table : tie.Need-add-table Inv-loop μ-loop
-add-table c = omega (arith, tally-small (c .before .before .before .before .loop .inv) (c .before .before .before .before .before .before .before .pre .1) (c .before .before .before .loop-test .taken) (c .before .place-of .ensures))
+add-table c =
+    let inv = c .before .before .before .before .loop .inv in
+    let low = c .before .before .before .before .before .before .before .pre .1 in
+    let inside = c .before .before .before .loop-test .taken in
+    let place-is = c .before .place-of .ensures in
+    omega (arith, tally-small inv low inside place-is)
 
 mul-table-2 : tie.Need-mul-table-2 Inv-loop μ-loop
-mul-table-2 c = omega (arith, tally-place (c .before .before .before .before .loop .inv) (c .before .before .before .before .before .before .before .pre .1) (c .before .before .before .loop-test .taken) (c .before .place-of .ensures))
+mul-table-2 c =
+    let inv = c .before .before .before .before .loop .inv in
+    let low = c .before .before .before .before .before .before .before .pre .1 in
+    let inside = c .before .before .before .loop-test .taken in
+    let place-is = c .before .place-of .ensures in
+    omega (arith, tally-place inv low inside place-is)
 
 slice-write-table : tie.Need-slice-write-table Inv-loop μ-loop
-slice-write-table c = omega (arith, tally-place (c .before .before .before .before .loop .inv) (c .before .before .before .before .before .before .before .pre .1) (c .before .before .before .loop-test .taken) (c .before .place-of .ensures), c .before .before .before .before .loop .inv .long)
+slice-write-table c =
+    let inv = c .before .before .before .before .loop .inv in
+    let low = c .before .before .before .before .before .before .before .pre .1 in
+    let inside = c .before .before .before .loop-test .taken in
+    let place-is = c .before .place-of .ensures in
+    omega (arith, tally-place inv low inside place-is, inv .long)
 
 add-i : tie.Need-add-i Inv-loop μ-loop
 add-i c = search needs
@@ -51,7 +79,12 @@ loop-less : tie.Need-loop-less Inv-loop μ-loop
 loop-less c = search needs
 
 loop-again : tie.Need-loop-again Inv-loop μ-loop
-loop-again c = tally-next (c .before .before .before .before .loop .inv) (c .before .before .before .before .before .before .before .pre .1) (c .before .before .before .loop-test .taken) (c .before .place-of .ensures)
+loop-again c =
+    let inv = c .before .before .before .before .loop .inv in
+    let low = c .before .before .before .before .before .before .before .pre .1 in
+    let inside = c .before .before .before .loop-test .taken in
+    let place-is = c .before .place-of .ensures in
+    tally-next inv low inside place-is
 
 same-length : tie.Need-same-length Inv-loop μ-loop
 same-length c = c .before .loop .inv .long ∙ sym (c .before .before .before .before .pre .0 .long)
@@ -66,8 +99,8 @@ tally-spec =
     Inv-loop
     μ-loop
     loop-holds
-    mul-place-of
-    shared-slice-read-place-of
+    mul-cycle
+    shared-slice-read-cycle
     place-of-requires
     add-c
     mul-table

@@ -25,28 +25,54 @@ card-place-requires : tie.Need-card-place-requires Inv-loop μ-loop
 card-place-requires c κs = search needs
 
 mul-late : tie.Need-mul-late Inv-loop μ-loop
-mul-late c = omega (arith, card-inside (c .before .before .before .loop .inv) (c .before .before .before .before .before .before .pre .0) (c .before .before .loop-test .taken) (c .card-place .ensures))
+mul-late c =
+    let inv = c .before .before .before .loop .inv in
+    let checking = c .before .before .before .before .before .before .pre .0 in
+    let inside = c .before .before .loop-test .taken in
+    omega (arith, card-inside inv checking inside (c .card-place .ensures))
 
 array-read-late : tie.Need-array-read-late Inv-loop μ-loop
-array-read-late c = card-inside (c .before .before .before .loop .inv) (c .before .before .before .before .before .before .pre .0) (c .before .before .loop-test .taken) (c .card-place .ensures)
+array-read-late c =
+    let inv = c .before .before .before .loop .inv in
+    let checking = c .before .before .before .before .before .before .pre .0 in
+    let inside = c .before .before .loop-test .taken in
+    card-inside inv checking inside (c .card-place .ensures)
 
 mul-larger : tie.Need-mul-larger Inv-loop μ-loop
 mul-larger c = search needs
 
 shared-slice-read-larger : tie.Need-shared-slice-read-larger Inv-loop μ-loop
-shared-slice-read-larger c = omega (arith, c .before .before .before .before .before .before .before .pre .0 .same-length)
+shared-slice-read-larger c =
+    let checking = c .before .before .before .before .before .before .before .pre .0 in
+    omega (arith, checking .same-length)
 
 larger-requires : tie.Need-larger-requires Inv-loop μ-loop
 larger-requires c κs = search needs
 
 mul-latest : tie.Need-mul-latest Inv-loop μ-loop
-mul-latest c = omega (arith, card-inside (c .before .before .before .before .before .loop .inv) (c .before .before .before .before .before .before .before .before .pre .0) (c .before .before .before .before .loop-test .taken) (c .before .before .card-place .ensures))
+mul-latest c =
+    let inv = c .before .before .before .before .before .loop .inv in
+    let checking = c .before .before .before .before .before .before .before .before .pre .0 in
+    let inside = c .before .before .before .before .loop-test .taken in
+    let card-is = c .before .before .card-place .ensures in
+    omega (arith, card-inside inv checking inside card-is)
 
 array-write-latest : tie.Need-array-write-latest Inv-loop μ-loop
-array-write-latest c = card-inside (c .before .before .before .before .before .loop .inv) (c .before .before .before .before .before .before .before .before .pre .0) (c .before .before .before .before .loop-test .taken) (c .before .before .card-place .ensures)
+array-write-latest c =
+    let inv = c .before .before .before .before .before .loop .inv in
+    let checking = c .before .before .before .before .before .before .before .before .pre .0 in
+    let inside = c .before .before .before .before .loop-test .taken in
+    let card-is = c .before .before .card-place .ensures in
+    card-inside inv checking inside card-is
 
 frame-requires : tie.Need-frame-requires Inv-loop μ-loop
-frame-requires c κs = (c .before .before .before .before .before .before .before .before .pre .0, c .before .before .before .before .loop-test .taken, none-after (c .before .before .before .before .before .loop .inv) (c .before .before .before .before .before .before .before .before .pre .0) (c .before .before .before .before .loop-test .taken) (c .before .before .card-place .ensures), c .before .before .before .before .before .before .before .before .pre .1)
+frame-requires c κs =
+    let inv = c .before .before .before .before .before .loop .inv in
+    let checking = c .before .before .before .before .before .before .before .before .pre .0 in
+    let roomy = c .before .before .before .before .before .before .before .before .pre .1 in
+    let inside = c .before .before .before .before .loop-test .taken in
+    let card-is = c .before .before .card-place .ensures in
+    (checking, inside, none-after inv checking inside card-is, roomy)
 
 add-i : tie.Need-add-i Inv-loop μ-loop
 add-i c = search needs
@@ -55,13 +81,28 @@ is-valid-requires : tie.Need-is-valid-requires Inv-loop μ-loop
 is-valid-requires c κs = search needs
 
 returns : tie.Need-returns Inv-loop μ-loop
-returns c = first-fault (c .before .before .before .before .before .before .before .before .loop .inv) (c .before .before .before .before .before .before .before .before .before .before .before .pre .0) (c .before .before .before .before .before .before .before .loop-test .taken) (c .before .before .before .before .before .card-place .ensures) (c .before .before .frame .ensures) (sym (c .before .is-valid .ensures) ∙ not-true _ (c .if1 .taken))
+returns c =
+    let inv = c .before .before .before .before .before .before .before .before .loop .inv in
+    let checking = c .before .before .before .before .before .before .before .before .before .before .before .pre .0 in
+    let inside = c .before .before .before .before .before .before .before .loop-test .taken in
+    let card-is = c .before .before .before .before .before .card-place .ensures in
+    let verdict-is = c .before .before .frame .ensures in
+    let valid-is = c .before .is-valid .ensures in
+    first-fault inv checking inside card-is verdict-is (sym valid-is ∙ not-true _ (c .if1 .taken))
 
 loop-less : tie.Need-loop-less Inv-loop μ-loop
 loop-less c = search needs
 
 loop-again : tie.Need-loop-again Inv-loop μ-loop
-loop-again c = next-frame (c .before .before .before .before .before .before .before .before .loop .inv) (c .before .before .before .before .before .before .before .before .before .before .before .pre .0) (c .before .before .before .before .before .before .before .loop-test .taken) (c .before .before .before .before .before .card-place .ensures) (c .before .before .frame .ensures) (sym (c .before .is-valid .ensures) ∙ not-false _ (c .if1 .left)) (c .before .before .before .larger .ensures)
+loop-again c =
+    let inv = c .before .before .before .before .before .before .before .before .loop .inv in
+    let checking = c .before .before .before .before .before .before .before .before .before .before .before .pre .0 in
+    let inside = c .before .before .before .before .before .before .before .loop-test .taken in
+    let card-is = c .before .before .before .before .before .card-place .ensures in
+    let verdict-is = c .before .before .frame .ensures in
+    let valid-is = c .before .is-valid .ensures in
+    let latest-is = c .before .before .before .larger .ensures in
+    next-frame inv checking inside card-is verdict-is (sym valid-is ∙ not-false _ (c .if1 .left)) latest-is
 
 returns-2 : tie.Need-returns-2 Inv-loop μ-loop
 returns-2 c = no-fault (c .before .loop .inv) (c .before .before .before .before .pre .0) (c .loop-test .left)

@@ -20,19 +20,35 @@ returns : tie.Need-returns
 returns c = says-no-cycle _ _ _ _ _ (c .if1 .taken)
 
 shares-card-requires : tie.Need-shares-card-requires
-shares-card-requires c κs = (c .before .before .before .before .pre .1, c .before .before .before .before .pre .0 .same-length, c .before .before .before .before .pre .2)
+shares-card-requires c κs =
+    let checking = c .before .before .before .before .pre .0 in
+    let inside = c .before .before .before .before .pre .1 in
+    let none-after = c .before .before .before .before .pre .2 in
+    (inside, checking .same-length, none-after)
 
 returns-2 : tie.Need-returns-2
-returns-2 c = says-shared _ _ _ _ _ (c .before .before .if1 .left) (sym (c .before .shares-card .ensures) ∙ c .if2 .taken)
+returns-2 c =
+    let has-cycle = c .before .before .if1 .left in
+    says-shared _ _ _ _ _ has-cycle (sym (c .before .shares-card .ensures) ∙ c .if2 .taken)
 
 overfull-requires : tie.Need-overfull-requires
-overfull-requires c κs = (omega (arith, c .before .before .before .before .before .before .pre .1, c .before .before .before .before .before .before .pre .0 .same-length), omega (arith, c .before .before .before .before .before .before .pre .0 .few, c .before .before .before .before .before .before .pre .0 .same-length), c .before .before .before .before .before .before .pre .3)
+overfull-requires c κs =
+    let checking = c .before .before .before .before .before .before .pre .0 in
+    let inside = c .before .before .before .before .before .before .pre .1 in
+    let roomy = c .before .before .before .before .before .before .pre .3 in
+    (omega (arith, inside, checking .same-length), omega (arith, checking .few, checking .same-length), roomy)
 
 returns-3 : tie.Need-returns-3
-returns-3 c = says-overfull _ _ _ _ _ (c .before .before .before .before .if1 .left) (sym (c .before .before .before .shares-card .ensures) ∙ c .before .before .if2 .left) (sym (c .before .overfull .ensures) ∙ c .if3 .taken)
+returns-3 c =
+    says-overfull _ _ _ _ _ (c .before .before .before .before .if1 .left)
+    (sym (c .before .before .before .shares-card .ensures) ∙ c .before .before .if2 .left)
+    (sym (c .before .overfull .ensures) ∙ c .if3 .taken)
 
 returns-4 : tie.Need-returns-4
-returns-4 c = says-clear _ _ _ _ _ (c .before .before .before .before .if1 .left) (sym (c .before .before .before .shares-card .ensures) ∙ c .before .before .if2 .left) (sym (c .before .overfull .ensures) ∙ c .if3 .left)
+returns-4 c =
+    says-clear _ _ _ _ _ (c .before .before .before .before .if1 .left)
+    (sym (c .before .before .before .shares-card .ensures) ∙ c .before .before .if2 .left)
+    (sym (c .before .overfull .ensures) ∙ c .if3 .left)
 
 pub frame-spec : {M : Type 1} → statement M
 frame-spec =

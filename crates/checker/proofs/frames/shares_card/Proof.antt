@@ -12,7 +12,9 @@ shared-slice-read-if1 : tie.Need-shared-slice-read-if1
 shared-slice-read-if1 c = search needs
 
 returns : tie.Need-returns
-returns c = not-shared-later _ _ _ _ (c .before .before .before .before .pre .2) (c .if1 .taken)
+returns c =
+    let none-after = c .before .before .before .before .before .pre .2 in
+    not-shared-later _ _ _ _ none-after (c .if1 .taken)
 
 shared-requires : tie.Need-shared-requires
 shared-requires c κs = search needs

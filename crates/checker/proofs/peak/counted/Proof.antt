@@ -15,14 +15,14 @@ abbrev μ-loop : tie.MeasureT-loop
 loop-holds : tie.Need-loop-holds Inv-loop μ-loop
 loop-holds c = counted-first _
 
-mul-later-up-to : tie.Need-mul-later-up-to Inv-loop μ-loop
-mul-later-up-to c = search needs
+mul-one-before : tie.Need-mul-one-before Inv-loop μ-loop
+mul-one-before c = search needs
 
-shared-slice-read-later-up-to : tie.Need-shared-slice-read-later-up-to Inv-loop μ-loop
-shared-slice-read-later-up-to c = search needs
+shared-slice-read-one-before : tie.Need-shared-slice-read-one-before Inv-loop μ-loop
+shared-slice-read-one-before c = search needs
 
-sub-later-up-to : tie.Need-sub-later-up-to Inv-loop μ-loop
-sub-later-up-to c = c .before .before .before .before .pre .1 _ (c .before .loop-test .taken)
+sub-one-before : tie.Need-sub-one-before Inv-loop μ-loop
+sub-one-before c = c .before .before .before .before .pre .1 _ (c .before .loop-test .taken)
 
 later-up-to-requires : tie.Need-later-up-to-requires Inv-loop μ-loop
 later-up-to-requires c κs = (c .before .loop-test .taken, c .before .before .before .before .pre .0)
@@ -37,7 +37,12 @@ loop-less : tie.Need-loop-less Inv-loop μ-loop
 loop-less c = search needs
 
 loop-again : tie.Need-loop-again Inv-loop μ-loop
-loop-again c = counted-next (c .before .before .before .before .loop .inv) (c .before .before .before .loop-test .taken) (c .before .before .before .before .before .before .pre .1 _ (c .before .before .before .loop-test .taken)) (c .before .later-up-to .ensures) (c .larger .ensures)
+loop-again c =
+    let inv = c .before .before .before .before .loop .inv in
+    let from-one = c .before .before .before .before .before .before .pre .1 in
+    let inside = c .before .before .before .loop-test .taken in
+    let count-is = c .before .later-up-to .ensures in
+    counted-next inv inside (from-one _ inside) count-is (c .larger .ensures)
 
 returns : tie.Need-returns Inv-loop μ-loop
 returns c = counted-all (c .before .loop .inv) (c .loop-test .left)
@@ -49,9 +54,9 @@ counted-spec =
     Inv-loop
     μ-loop
     loop-holds
-    mul-later-up-to
-    shared-slice-read-later-up-to
-    sub-later-up-to
+    mul-one-before
+    shared-slice-read-one-before
+    sub-one-before
     later-up-to-requires
     larger-requires
     add-i

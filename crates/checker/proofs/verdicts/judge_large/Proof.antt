@@ -16,16 +16,41 @@ is-valid-requires : tie.Need-is-valid-requires
 is-valid-requires c κs = search needs
 
 returns : tie.Need-returns
-returns c = large-fault (c .before .before .before .before .before .pre .0) (c .before .before .before .before .before .pre .1) _ (c .before .before .first-fault .result) _ (c .before .before .first-fault .ensures) (sym (c .before .is-valid .ensures) ∙ not-true _ (c .if1 .taken))
+returns c =
+    let checking = c .before .before .before .before .before .pre .0 in
+    let top-is = c .before .before .before .before .before .pre .1 in
+    let fault = c .before .before .first-fault in
+    let valid-is = c .before .is-valid .ensures in
+    large-fault checking top-is _ (fault .result) _ (fault .ensures) (sym valid-is ∙ not-true _ (c .if1 .taken))
 
 returns-2 : tie.Need-returns-2
-returns-2 c = large-save (c .before .before .before .before .before .before .pre .0) (c .before .before .before .before .before .before .pre .1) _ (c .before .before .before .first-fault .result) _ (c .before .before .before .first-fault .ensures) (sym (c .before .before .is-valid .ensures) ∙ not-false _ (c .before .if1 .left)) (c .if2 .taken)
+returns-2 c =
+    let checking = c .before .before .before .before .before .before .pre .0 in
+    let top-is = c .before .before .before .before .before .before .pre .1 in
+    let fault = c .before .before .before .first-fault in
+    let valid-is = c .before .before .is-valid .ensures in
+    let valid = c .before .if1 .left in
+    large-save checking top-is _ (fault .result) _ (fault .ensures) (sym valid-is ∙ not-false _ valid) (c .if2 .taken)
 
 counted-requires : tie.Need-counted-requires
-counted-requires c κs = (few-cycles (c .before .before .before .before .before .before .pre .0), λ i l. large-correct (c .before .before .before .before .before .before .pre .0) (c .before .before .before .before .before .before .pre .1) _ (c .before .before .before .first-fault .result) _ (c .before .before .before .first-fault .ensures) (sym (c .before .before .is-valid .ensures) ∙ not-false _ (c .before .if1 .left)) .from-one i (omega (arith, c .before .before .before .before .before .before .pre .0 .same-length)))
+counted-requires c κs =
+    let checking = c .before .before .before .before .before .before .pre .0 in
+    let top-is = c .before .before .before .before .before .before .pre .1 in
+    let fault = c .before .before .before .first-fault in
+    let valid-is = c .before .before .is-valid .ensures in
+    let valid = c .before .if1 .left in
+    let correct = large-correct checking top-is _ (fault .result) _ (fault .ensures) (sym valid-is ∙ not-false _ valid) in
+    (few-cycles checking, λ i l. correct .from-one i (omega (arith, checking .same-length)))
 
 returns-3 : tie.Need-returns-3
-returns-3 c = large-read (c .before .before .before .before .before .before .before .pre .0) (c .before .before .before .before .before .before .before .pre .1) _ (c .before .before .before .before .first-fault .result) _ (c .before .before .before .before .first-fault .ensures) (sym (c .before .before .before .is-valid .ensures) ∙ not-false _ (c .before .before .if1 .left)) (c .before .if2 .left) (c .counted .ensures)
+returns-3 c =
+    let checking = c .before .before .before .before .before .before .before .pre .0 in
+    let top-is = c .before .before .before .before .before .before .before .pre .1 in
+    let fault = c .before .before .before .before .first-fault in
+    let valid-is = c .before .before .before .is-valid .ensures in
+    let valid = c .before .before .if1 .left in
+    let read = c .before .if2 .left in
+    large-read checking top-is _ (fault .result) _ (fault .ensures) (sym valid-is ∙ not-false _ valid) read (c .counted .ensures)
 
 pub judge-large-spec : {M : Type 1} → statement M
 judge-large-spec =

@@ -10,7 +10,11 @@ slice-aggregate-fill : tie.Need-slice-aggregate-fill
 slice-aggregate-fill c = search needs
 
 fill-requires : tie.Need-fill-requires
-fill-requires c κs = (zeroed, low-plan (c .before .before .before .pre .0) (c .before .before .before .pre .1) (c .before .before .before .pre .2))
+fill-requires c κs =
+    let checking = c .before .before .before .pre .0 in
+    let top-is = c .before .before .before .pre .1 in
+    let top-low = c .before .before .before .pre .2 in
+    (zeroed, low-plan checking top-is top-low)
 
 slice-aggregate-most-of-read : tie.Need-slice-aggregate-most-of-read
 slice-aggregate-most-of-read c = search needs
@@ -19,13 +23,21 @@ most-of-read-requires : tie.Need-most-of-read-requires
 most-of-read-requires c κs = search needs
 
 first-fault-requires : tie.Need-first-fault-requires
-first-fault-requires c κs = (c .before .before .before .before .before .before .before .before .pre .0, roomy-read (c .before .most-of-read .ensures .0))
+first-fault-requires c κs =
+    let checking = c .before .before .before .before .before .before .before .before .pre .0 in
+    let most-is = c .before .most-of-read .ensures in
+    (checking, roomy-read (most-is .0))
 
 complete-requires : tie.Need-complete-requires
 complete-requires c κs = search needs
 
 returns : tie.Need-returns
-returns c = c .complete .ensures ∙ read-judged (c .before .before .before .before .before .before .before .before .before .before .pre .0) (c .before .before .before .before .before .before .before .before .before .before .pre .1) _ (c .before .first-fault .result) (c .before .before .before .most-of-read .ensures .1) (c .before .first-fault .ensures)
+returns c =
+    let checking = c .before .before .before .before .before .before .before .before .before .before .pre .0 in
+    let top-is = c .before .before .before .before .before .before .before .before .before .before .pre .1 in
+    let fault = c .before .first-fault in
+    let most-is = c .before .before .before .most-of-read .ensures in
+    c .complete .ensures ∙ read-judged checking top-is _ (fault .result) (most-is .1) (fault .ensures)
 
 pub judge-read-spec : {M : Type 1} → statement M
 judge-read-spec =

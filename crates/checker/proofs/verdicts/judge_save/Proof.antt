@@ -10,7 +10,11 @@ slice-aggregate-fill : tie.Need-slice-aggregate-fill
 slice-aggregate-fill c = search needs
 
 fill-requires : tie.Need-fill-requires
-fill-requires c κs = (zeroed, low-plan (c .before .before .before .pre .0) (c .before .before .before .pre .1) (c .before .before .before .pre .2))
+fill-requires c κs =
+    let checking = c .before .before .before .pre .0 in
+    let top-is = c .before .before .before .pre .1 in
+    let top-low = c .before .before .before .pre .2 in
+    (zeroed, low-plan checking top-is top-low)
 
 slice-aggregate-most-of-save : tie.Need-slice-aggregate-most-of-save
 slice-aggregate-most-of-save c = search needs
@@ -19,13 +23,19 @@ most-of-save-requires : tie.Need-most-of-save-requires
 most-of-save-requires c κs = search needs
 
 first-fault-requires : tie.Need-first-fault-requires
-first-fault-requires c κs = (c .before .before .before .before .before .before .before .pre .0, roomy-save (c .most-of-save .ensures))
+first-fault-requires c κs =
+    let checking = c .before .before .before .before .before .before .before .pre .0 in
+    (checking, roomy-save (c .most-of-save .ensures))
 
 complete-requires : tie.Need-complete-requires
 complete-requires c κs = search needs
 
 returns : tie.Need-returns
-returns c = c .complete .ensures ∙ save-judged (c .before .before .before .before .before .before .before .before .before .pre .0) (c .before .before .before .before .before .before .before .before .before .pre .1) _ (c .before .first-fault .result) (c .before .first-fault .ensures)
+returns c =
+    let checking = c .before .before .before .before .before .before .before .before .before .pre .0 in
+    let top-is = c .before .before .before .before .before .before .before .before .before .pre .1 in
+    let fault = c .before .first-fault in
+    c .complete .ensures ∙ save-judged checking top-is _ (fault .result) (fault .ensures)
 
 pub judge-save-spec : {M : Type 1} → statement M
 judge-save-spec =
