@@ -1,59 +1,112 @@
--- The checker accepts a plan exactly when it is a correct schedule, and accepts our own plans.
+-- The checker accepts a plan exactly when it is a correct schedule, names the lowest position at fault, and accepts our own plans.
 -- Assumes nothing.
-use Prim.Native.Nat.{ℕ}
-use mathlib.Core.Path.{_≡_, refl, sym, ap, _∙_}
-use mathlib.Core.Bool.{true, false≢true}
+use Prim.Native.Nat.{ℕ, _≤_}
+use mathlib.Core.Path.{_≡_, sym, ap, _∙_}
+use mathlib.Core.Logic.{_≢_}
+use mathlib.Core.Bool.{cond}
 use mathlib.Core.List.{List}
+use native.Mathlib.Omega.{arith}
+use native.Mathlib.Decide.{ℕ-discrete}
+use lib.Dec.{eqb}
 use lib.ListN.{length}
-use borrow.Author.Tests.{eq-eqb}
+use borrow.Author.Tests.{eq-eqb, ne-eqb}
+use Rattle.schedule.specs.Schedule.{oBacklog, iBacklog, Correct}
 use Rattle.schedule.specs.Greedy.{greedyWriting, lazyPrefetching}
 use Rattle.schedule.specs.Dock.{emptyDock}
 use Rattle.schedule.specs.Drive.{peak, stepsOf}
-use Rattle.schedule.specs.Verdict.{valid, faulty, verdictOnRead, verdictOnSave}
+use Rattle.schedule.specs.Verdict.{Fault, valid, faulty, verdictOnRead, verdictOnSave, Named}
 use Rattle.schedule.specs.Verdict as theory
-use Rattle.schedule.proofs.Main.{valid-read, read-valid, valid-save, save-valid, own-read-valid, own-save-valid, read-correct, save-correct}
+use Rattle.schedule.proofs.Main.{valid-read, read-valid, valid-save, save-valid, read-named, save-named}
+use Rattle.schedule.proofs.Main.{own-read-valid, own-save-valid, read-correct, save-correct}
 use Rattle.header.specs.Limits.{read, save}
 use Rattle.header.specs.declared.Header.{Header}
 use Rattle.ticket.specs.Ticket.{accepted, parse}
 use Rattle.ticket.proofs.Main.{accepted-fits}
-use Rattle.checker.specs.Check.{answerOf, isValid, checkOf}
+use Rattle.checker.specs.Check.{answerOf, checkOf}
+use Rattle.checker.specs.Numbers.{validNumber, faultNumber, numbersOf}
 use Rattle.checker.specs.Exact.{Exact}
 use Rattle.checker.specs.declared.Verdict.{Verdict}
-use Rattle.checker.specs.declared.Verdict.the-variants.{Valid}
-use Rattle.checker.proofs.Judged.{fault-not-valid}
+use Rattle.checker.specs.declared.Verdict.the-variants.{Valid, Refused}
+use Rattle.checker.proofs.Numbers.{verdictNumber, positionNumber, from-two, was-valid, was-fault}
 
--- a valid answer is a valid verdict
-was-valid : (v : theory.Verdict) → isValid (answerOf v) ≡ true → (T : ℕ) × (p : ℕ) × (v ≡ valid T p)
-was-valid (valid T p) e = (T, p, refl)
-was-valid (faulty i f) e = absurd (false≢true (sym (fault-not-valid i f) ∙ e))
+-- the answer to a plan of an accepted ticket, where the theory's verdict on it is v: 11, or v
+abbrev toPlan : List ℕ → List ℕ → theory.Verdict → Verdict
+toPlan cards cycles v = cond (eqb (length cycles) (length cards)) (answerOf v) (Refused 11)
 
-module _ (h : Header) (cards cycles : List ℕ) (l : length cycles ≡ length cards) where
-  answer-read : h .mode ≡ read → checkOf (accepted h cards) cycles ≡ answerOf (verdictOnRead (h .pool) cards cycles)
+module _ (cards cycles : List ℕ) (v : theory.Verdict) where
+  as-long : length cycles ≡ length cards → toPlan cards cycles v ≡ answerOf v
+  as-long l = rw (eq-eqb (length cycles) (length cards) l)
+
+  not-as-long : length cycles ≢ length cards → toPlan cards cycles v ≡ Refused 11
+  not-as-long l = rw (ne-eqb (length cycles) (length cards) l)
+
+-- which verdict that is
+module _ (h : Header) (cards cycles : List ℕ) where
+  answer-read : h .mode ≡ read → checkOf (accepted h cards) cycles ≡ toPlan cards cycles (verdictOnRead (h .pool) cards cycles)
   unfolding checkOf
-  answer-read q = rw (q, eq-eqb (length cycles) (length cards) l)
+  answer-read q = rw q
 
-  answer-save : h .mode ≡ save → checkOf (accepted h cards) cycles ≡ answerOf (verdictOnSave (h .pool) cards cycles)
+  answer-save : h .mode ≡ save → checkOf (accepted h cards) cycles ≡ toPlan cards cycles (verdictOnSave (h .pool) cards cycles)
   unfolding checkOf
-  answer-save q = rw (q, eq-eqb (length cycles) (length cards) l)
+  answer-save q = rw q
 
-pub exact : (t cycles : List ℕ) (r : Verdict) → r ≡ checkOf (parse t) cycles → Exact t cycles (isValid r)
+-- what the numbers of the answer say, for a read as for a save
+module _ (backlog : List ℕ → ℕ → ℕ) (m : ℕ) (cards cycles : List ℕ) (v : theory.Verdict) (r : Verdict) (r-is : r ≡ toPlan cards cycles v) where
+  -- an answer with a verdict's number is the verdict on a plan of L cycles
+  judged : 1 ≤ verdictNumber r → (length cycles ≡ length cards) × (r ≡ answerOf v)
+  judged n =
+      elim (ℕ-discrete (length cycles) (length cards)) [
+        | yes l ↦ (l, r-is ∙ as-long cards cycles v l)
+        | no l ↦ absurd (omega (arith, n, ap verdictNumber (r-is ∙ not-as-long cards cycles v l)))
+      ]
+
+  exact-plan :
+      (length cycles ≡ length cards → (T p : ℕ) → v ≡ valid T p → Correct backlog m cards cycles)
+      → {T p : ℕ} → (Correct backlog m cards cycles → v ≡ valid T p)
+      → (verdictNumber r ≡ validNumber → Correct backlog m cards cycles) × (Correct backlog m cards cycles → verdictNumber r ≡ validNumber)
+  exact-plan sound whole = (
+    λ e.
+        let j = judged (omega (arith, e)) in
+        let w = was-valid v (sym (ap verdictNumber (j .1)) ∙ e) in
+        sound (j .0) (w .0) (w .1) (w .2),
+    λ ok. ap verdictNumber (r-is ∙ as-long cards cycles v (ok .one-each) ∙ ap answerOf (whole ok)),
+  )
+
+  exact-fault :
+      ((i : ℕ) (f : Fault) → v ≡ faulty i f → Named backlog m cards cycles i f)
+      → (f : Fault) → verdictNumber r ≡ faultNumber f → Named backlog m cards cycles (positionNumber r) f
+  exact-fault named f e =
+      let j = judged (omega (arith, e, from-two f)) in
+      rw (j .1) (named (positionNumber (answerOf v)) f (was-fault v f (sym (ap verdictNumber (j .1)) ∙ e)))
+
+-- a call's answer to a read ticket, and to a save ticket
+module _ (t cycles : List ℕ) (r : Verdict) (e : r ≡ checkOf (parse t) cycles) (h : Header) (cards : List ℕ) (a : parse t ≡ accepted h cards) where
+  of-read : h .mode ≡ read → r ≡ toPlan cards cycles (verdictOnRead (h .pool) cards cycles)
+  of-read q = e ∙ ap (λ p. checkOf p cycles) a ∙ answer-read h cards cycles q
+
+  of-save : h .mode ≡ save → r ≡ toPlan cards cycles (verdictOnSave (h .pool) cards cycles)
+  of-save q = e ∙ ap (λ p. checkOf p cycles) a ∙ answer-save h cards cycles q
+
+pub exact : (t cycles : List ℕ) (r : Verdict) → r ≡ checkOf (parse t) cycles → Exact t cycles (verdictNumber r) (positionNumber r)
 exact t cycles r e =
     record {
-      read-plan = λ h cards a q l.
-          let s : r ≡ answerOf (verdictOnRead (h .pool) cards cycles) = e ∙ ap (λ p. checkOf p cycles) a ∙ answer-read h cards cycles l q in (
-            λ v. let w = was-valid (verdictOnRead (h .pool) cards cycles) (sym (ap isValid s) ∙ v) in valid-read (h .pool) cards cycles l (w .0) (w .1) (w .2),
-            λ ok. ap isValid (s ∙ ap answerOf (read-valid (h .pool) cards cycles ok)),
-          );
-      save-plan = λ h cards a q l.
-          let s : r ≡ answerOf (verdictOnSave (h .pool) cards cycles) = e ∙ ap (λ p. checkOf p cycles) a ∙ answer-save h cards cycles l q in (
-            λ v. let w = was-valid (verdictOnSave (h .pool) cards cycles) (sym (ap isValid s) ∙ v) in valid-save (h .pool) cards cycles l (w .0) (w .1) (w .2),
-            λ ok. ap isValid (s ∙ ap answerOf (save-valid (h .pool) cards cycles ok)),
-          );
+      read-plan = λ h cards a q.
+          exact-plan iBacklog (h .pool) cards cycles _ r (of-read t cycles r e h cards a q)
+          (valid-read (h .pool) cards cycles)
+          (read-valid (h .pool) cards cycles);
+      read-fault = λ h cards a q. exact-fault iBacklog (h .pool) cards cycles _ r (of-read t cycles r e h cards a q) (read-named (h .pool) cards cycles);
+      save-plan = λ h cards a q.
+          exact-plan oBacklog (h .pool) cards cycles _ r (of-save t cycles r e h cards a q)
+          (valid-save (h .pool) cards cycles)
+          (save-valid (h .pool) cards cycles);
+      save-fault = λ h cards a q. exact-fault oBacklog (h .pool) cards cycles _ r (of-save t cycles r e h cards a q) (save-named (h .pool) cards cycles);
     }
 
--- the two clauses of `check`
-pub contract : (t cycles : List ℕ) (r : Verdict) → r ≡ checkOf (parse t) cycles → (r ≡ checkOf (parse t) cycles) × Exact t cycles (isValid r)
-contract t cycles r e = (e, exact t cycles r e)
+-- the three clauses of `check`
+pub contract :
+    (t cycles : List ℕ) (r : Verdict) → r ≡ checkOf (parse t) cycles
+    → (r ≡ checkOf (parse t) cycles) × ((numbersOf r ≡ numbersOf (checkOf (parse t) cycles)) × Exact t cycles (verdictNumber r) (positionNumber r))
+contract t cycles r e = (e, (ap numbersOf e, exact t cycles r e))
 
 module _ (t : List ℕ) (h : Header) (cards : List ℕ) (e : parse t ≡ accepted h cards) where
   pub own-read :
@@ -64,11 +117,15 @@ module _ (t : List ℕ) (h : Header) (cards : List ℕ) (e : parse t ≡ accepte
   own-read q =
       let pool = accepted-fits t h cards e .pool .0 in
       let cycles : List ℕ = lazyPrefetching (h .pool) cards .cycles in
-      ap (λ p. checkOf p cycles) e ∙ answer-read h cards cycles (read-correct (h .pool) cards pool .one-each) q ∙ ap answerOf (own-read-valid (h .pool) cards pool)
+      ap (λ p. checkOf p cycles) e ∙ answer-read h cards cycles q
+      ∙ as-long cards cycles (verdictOnRead (h .pool) cards cycles) (read-correct (h .pool) cards pool .one-each)
+      ∙ ap answerOf (own-read-valid (h .pool) cards pool)
 
   pub own-save :
       h .mode ≡ save → checkOf (parse t) (greedyWriting (h .pool) cards .cycles) ≡ Valid (record { 0 = greedyWriting (h .pool) cards .T }) 0
   own-save q =
       let pool = accepted-fits t h cards e .pool .0 in
       let cycles : List ℕ = greedyWriting (h .pool) cards .cycles in
-      ap (λ p. checkOf p cycles) e ∙ answer-save h cards cycles (save-correct (h .pool) cards pool .one-each) q ∙ ap answerOf (own-save-valid (h .pool) cards pool)
+      ap (λ p. checkOf p cycles) e ∙ answer-save h cards cycles q
+      ∙ as-long cards cycles (verdictOnSave (h .pool) cards cycles) (save-correct (h .pool) cards pool .one-each)
+      ∙ ap answerOf (own-save-valid (h .pool) cards pool)

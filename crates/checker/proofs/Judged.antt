@@ -18,8 +18,8 @@ use Rattle.schedule.specs.Verdict.{Fault, noCycle, sharedCard, overfull, valid,
 use Rattle.schedule.specs.Verdict as theory
 use Rattle.schedule.proofs.Exact.{Faultless, by-fault, judged-no-cycle, judged-shared, judged-overfull, judged-faultless, valid-correct, otherwise}
 use Rattle.header.specs.Limits.{maxCards}
-use Rattle.checker.specs.Check.{atFault, answerOf, isValid, completed}
-use Rattle.checker.specs.Parts.{Checking, NoneAfter, Roomy, backlogOf, frameVerdict, firstFault}
+use Rattle.checker.specs.Check.{atFault, answerOf}
+use Rattle.checker.specs.Parts.{Checking, NoneAfter, Roomy, backlogOf, isValid, completed, frameVerdict, firstFault}
 use Rattle.checker.specs.declared.Verdict.{Verdict}
 use Rattle.checker.specs.declared.Verdict.the-variants.{Valid}
 
@@ -118,7 +118,8 @@ module _ {save : Bool} {m : ℕ} {cards cycles latest : List ℕ} {i : ℕ} (v :
       first-fault e =
           r-is
           ∙ ap answerOf
-          (stops (backlogOf save) m cards cycles i (judgeFrom (backlogOf save) m cards cycles (length cards - (i + 1)) (i + 1) clear) (sym (ap isValid r-is) ∙ e)
+          (stops (backlogOf save) m cards cycles i (judgeFrom (backlogOf save) m cards cycles (length cards - (i + 1)) (i + 1) clear)
+          (sym (ap isValid r-is) ∙ e)
           ∙ sym apart
           ∙ v .rest)
 

@@ -1,5 +1,6 @@
 pub mod Main
 pub mod Cases
+pub mod Numbers
 pub mod Accepts
 pub mod Answers
 pub mod Whole

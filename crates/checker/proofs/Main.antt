@@ -11,7 +11,8 @@ use Rattle.schedule.specs.Drive.{peak, stepsOf}
 use Rattle.header.specs.Limits.{read, save}
 use Rattle.header.specs.declared.Header.{Header}
 use Rattle.ticket.specs.Ticket.{accepted, parse}
-use Rattle.checker.specs.Check.{isValid, checkOf}
+use Rattle.checker.specs.Check.{checkOf}
+use Rattle.checker.specs.Numbers.{numbersOf}
 use Rattle.checker.specs.Exact.{Exact}
 use Rattle.checker.specs.Cases.{told, asked}
 use Rattle.checker.specs.declared.Verdict.{Verdict}
@@ -19,8 +20,10 @@ use Rattle.checker.specs.declared.Verdict.the-variants.{Valid}
 use Rattle.checker.proofs.Cases as table
 use Rattle.checker.proofs.Accepts as accepts
 
--- Every answer that equals the definition, for whichever ticket and plan, is valid exactly when the plan meets the paper's conditions.
-pub check-exact : (t cycles : List ℕ) (r : Verdict) → r ≡ checkOf (parse t) cycles → Exact t cycles (isValid r)
+-- Every answer that equals the definition, for whichever ticket and plan, is valid exactly when the plan meets the paper's conditions, and
+-- otherwise names the lowest position at fault, and of its faults the first.
+pub check-exact :
+    (t cycles : List ℕ) (r : Verdict) → r ≡ checkOf (parse t) cycles → Exact t cycles (numbersOf r .verdict) (numbersOf r .position .0)
 check-exact = accepts.exact
 
 -- Our own plans are valid, with their T: the read plan also with the peak of its run on a dock with a buffer for every frame.

@@ -19,8 +19,8 @@ use Rattle.schedule.proofs.Bits.{by-cases}
 use Rattle.schedule.proofs.Peak.{peak-closed}
 use Rattle.schedule.proofs.Exact.{valid-correct, otherwise}
 use Rattle.header.specs.Limits.{maxFrames}
-use Rattle.checker.specs.Check.{answerOf, verdictOn, isValid, completed}
-use Rattle.checker.specs.Parts.{Checking, Roomy, backlogOf, places, Zeroed, Low, Bounds, mostOf, firstFault}
+use Rattle.checker.specs.Check.{answerOf, verdictOn}
+use Rattle.checker.specs.Parts.{Checking, Roomy, backlogOf, places, Zeroed, Low, Bounds, mostOf, isValid, completed, firstFault}
 use Rattle.checker.specs.declared.Verdict.{Verdict}
 use Rattle.checker.specs.declared.Verdict.the-variants.{Valid}
 use Rattle.checker.proofs.Judged.{clear, fault-not-valid, completed-valid, completed-fault, completed-verdict}
@@ -37,10 +37,14 @@ pub roomy-save : {m b : ℕ} {cycles : List ℕ} → Bounds oBacklog cycles b �
 roomy-save {m} {b} v l = record { each = λ i h. omega (arith, v .each i h, ltb-true b m l) }
 
 -- which kind of plan it is
-pub as-save : {save : Bool} (m : ℕ) (cards cycles : List ℕ) → save ≡ true → answerOf (verdictOn true m cards cycles) ≡ answerOf (verdictOn save m cards cycles)
+pub as-save :
+    {save : Bool} (m : ℕ) (cards cycles : List ℕ) → save ≡ true
+    → answerOf (verdictOn true m cards cycles) ≡ answerOf (verdictOn save m cards cycles)
 as-save m cards cycles s = rw s
 
-pub as-read : {save : Bool} (m : ℕ) (cards cycles : List ℕ) → save ≡ false → answerOf (verdictOn false m cards cycles) ≡ answerOf (verdictOn save m cards cycles)
+pub as-read :
+    {save : Bool} (m : ℕ) (cards cycles : List ℕ) → save ≡ false
+    → answerOf (verdictOn false m cards cycles) ≡ answerOf (verdictOn save m cards cycles)
 as-read m cards cycles s = rw s
 
 module _ {cards cycles : List ℕ} (f : Checking cards cycles) where
@@ -52,7 +56,9 @@ module _ {cards cycles : List ℕ} (f : Checking cards cycles) where
     low-plan l = record { few = few-cycles; top-low = l; up-to-top = λ i h. omega (arith, top-is, le-largest cycles i) }
 
     module _ (m : ℕ) (v : Verdict) where
-      pub read-judged : {p : ℕ} → p ≡ mostOf readBefore cycles → v ≡ firstFault false m cards cycles → completed v top p ≡ answerOf (verdictOn false m cards cycles)
+      pub read-judged :
+          {p : ℕ} → p ≡ mostOf readBefore cycles → v ≡ firstFault false m cards cycles
+          → completed v top p ≡ answerOf (verdictOn false m cards cycles)
       unfolding verdictOnRead
       read-judged {p} p-is v-is =
           completed-verdict false m cards cycles v top p (cyclesIn cycles) (peak (length cards) cards (stepsOf cycles) emptyDock) (f .same-length) v-is

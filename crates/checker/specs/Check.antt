@@ -13,28 +13,6 @@ use Rattle.ticket.specs.Ticket.{Parsed, accepted, refused}
 use Rattle.checker.specs.declared.Verdict.{Verdict}
 use Rattle.checker.specs.declared.Verdict.the-variants.{Valid, NoCycle, SharedCard, Overfull, Refused}
 
--- The numbers of an answer: the refusal, 0 for none; T and the peak. "With a fault, T and peak are 0", and beside a refusal too.
-abbrev pub refusalIn : Verdict → ℕ
-refusalIn (Valid T peak) = 0
-refusalIn (NoCycle p) = 0
-refusalIn (SharedCard p) = 0
-refusalIn (Overfull p) = 0
-refusalIn (Refused k) = k
-
-abbrev pub lengthIn : Verdict → ℕ
-lengthIn (Valid T peak) = T .0
-lengthIn (NoCycle p) = 0
-lengthIn (SharedCard p) = 0
-lengthIn (Overfull p) = 0
-lengthIn (Refused k) = 0
-
-abbrev pub peakIn : Verdict → ℕ
-peakIn (Valid T peak) = peak
-peakIn (NoCycle p) = 0
-peakIn (SharedCard p) = 0
-peakIn (Overfull p) = 0
-peakIn (Refused k) = 0
-
 -- a verdict in the code's words
 abbrev pub atFault : ℕ → Fault → Verdict
 atFault i noCycle = NoCycle (record { 0 = i })
@@ -56,14 +34,3 @@ checkOf (accepted h cards) cycles =
     cond (eqb (h .mode) saveAndKeep) (Refused 12)
     (cond (eqb (length cycles) (length cards)) (answerOf (verdictOn (eqb (h .mode) save) (h .pool) cards cycles)) (Refused 11))
 checkOf (refused k) cycles = Refused k
-
--- whether a verdict is valid, and a valid one with its T and peak
-abbrev pub isValid : Verdict → Bool
-isValid (Valid T peak) = true
-isValid (NoCycle p) = false
-isValid (SharedCard p) = false
-isValid (Overfull p) = false
-isValid (Refused k) = false
-
-abbrev pub completed : Verdict → ℕ → ℕ → Verdict
-completed v T peak = cond (isValid v) (Valid (record { 0 = T }) peak) v

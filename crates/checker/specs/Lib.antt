@@ -1,4 +1,5 @@
 pub mod Check
+pub mod Numbers
 pub mod Exact
 pub mod Cases
 pub mod Parts

@@ -2,7 +2,7 @@
 -- Assumes nothing.
 use Prim.Native.Nat.{ℕ, suc, _+_, _≤_, _<_}
 use mathlib.Core.Path.{_≡_}
-use mathlib.Core.Bool.{Bool, true, false, _&&_}
+use mathlib.Core.Bool.{Bool, true, false, _&&_, cond}
 use mathlib.Core.List.{List}
 use lib.Dec.{eqb, leb, ltb}
 use lib.ListN.{length, getD}
@@ -12,6 +12,7 @@ use Rattle.schedule.specs.Verdict.{valid, judge, judgeFrom}
 use Rattle.header.specs.Limits.{maxCards, maxFrames}
 use Rattle.checker.specs.Check.{answerOf}
 use Rattle.checker.specs.declared.Verdict.{Verdict}
+use Rattle.checker.specs.declared.Verdict.the-variants.{Valid, NoCycle, SharedCard, Overfull, Refused}
 
 -- a list within the limits, and a plan of as many cycles
 pub record Checking (cards cycles : List ℕ) : Type 0 where
@@ -71,6 +72,17 @@ pub record Bounds (f : List ℕ → ℕ → ℕ) (cycles : List ℕ) (r : ℕ) :
 -- the largest of f over the frames of a plan
 abbrev pub mostOf : (List ℕ → ℕ → ℕ) → List ℕ → ℕ
 mostOf f cycles = largest (tabulate (length cycles) (f cycles))
+
+-- whether a verdict is valid, and a valid one with its T and peak
+abbrev pub isValid : Verdict → Bool
+isValid (Valid T peak) = true
+isValid (NoCycle p) = false
+isValid (SharedCard p) = false
+isValid (Overfull p) = false
+isValid (Refused k) = false
+
+abbrev pub completed : Verdict → ℕ → ℕ → Verdict
+completed v T peak = cond (isValid v) (Valid (record { 0 = T }) peak) v
 
 -- the verdict on frame i, and that on the whole list; a valid one has no T and no peak yet
 unfoldable pub frameVerdict : Bool → ℕ → List ℕ → List ℕ → ℕ → Verdict

@@ -6,8 +6,7 @@ ghost use lib.ListN.{length};
 ghost use lib.Dec.{leb};
 ghost use Rattle.header.specs.Limits.{maxFrames};
 ghost use Rattle.schedule.specs.Verdict.{shares};
-ghost use Rattle.checker.specs.Check.{isValid};
-ghost use Rattle.checker.specs.Parts.{Checking, NoneAfter, Roomy, backlogOf, frameVerdict, firstFault};
+ghost use Rattle.checker.specs.Parts.{Checking, NoneAfter, Roomy, backlogOf, isValid, frameVerdict, firstFault};
 use crate::Verdict;
 use crate::backlog;
 use schedule::Cycle;
@@ -71,7 +70,8 @@ fn frame(
     i: usize,
     latest: Cycle,
 ) -> Verdict
-    requires { ⌜ Checking (now cards) (now plan) × (i < length (now cards)) × NoneAfter (now cards) (now plan) i (latest .0) × (roomy ≡ true → Roomy save m (now plan)) ⌝ }
+    requires { ⌜ Checking (now cards) (now plan) × (i < length (now cards)) × NoneAfter (now cards) (now plan) i (latest .0)
+        × (roomy ≡ true → Roomy save m (now plan)) ⌝ }
     ensures { λ r. ⌜ r ≡ frameVerdict save m (now (cards .entry)) (now (plan .entry)) i ⌝ }
 {
     let p = Position(i as u16);

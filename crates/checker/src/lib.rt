@@ -3,7 +3,8 @@ ghost use mathlib.Core.Path.{_≡_};
 ghost use lib.ListN.{take};
 ghost use Rattle.ticket.specs.Ticket.{accepted, parse};
 ghost use Rattle.ticket.specs.Grounds.{Fits};
-ghost use Rattle.checker.specs.Check.{isValid, checkOf};
+ghost use Rattle.checker.specs.Check.{checkOf};
+ghost use Rattle.checker.specs.Numbers.{numbersOf};
 ghost use Rattle.checker.specs.Exact.{Exact};
 
 mod backlog;
@@ -42,10 +43,12 @@ fn check_list(h: Header, card: &[u8], plan: &[u16]) -> Verdict
     verdicts::judge(h.mode == limits::SAVE, &card[..n], plan, h.pool)
 }
 
-// Checks a plan for a ticket. `exact` is demand 2's last sentence: a plan is called valid exactly when it meets the paper's conditions.
+// Checks a plan for a ticket. `exact` is demand 2's last sentence, that a plan is called valid exactly when it meets the paper's conditions,
+// and that a fault is named as document 01 says: the lowest position at fault, and of its faults the first.
 pub fn check(ticket: &[u8], plan: &[u16]) -> Verdict
     ensures answer { λ r. ⌜ r ≡ checkOf (parse (now (ticket .entry))) (now (plan .entry)) ⌝ }
-    ensures exact { λ r. ⌜ Exact (now (ticket .entry)) (now (plan .entry)) (isValid r) ⌝ }
+    ensures numbers { λ r. ⌜ numbersOf r ≡ numbersOf (checkOf (parse (now (ticket .entry))) (now (plan .entry))) ⌝ }
+    ensures exact { λ r. ⌜ Exact (now (ticket .entry)) (now (plan .entry)) (numbersOf r .verdict) (numbersOf r .position .0) ⌝ }
 {
     let read = ticket::parse(ticket);
     let answer = read.answer;

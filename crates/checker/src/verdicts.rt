@@ -1,13 +1,11 @@
 // The verdict on a plan: its first fault, or T and the peak.
 ghost use mathlib.Core.Path.{_≡_};
-ghost use Prim.Native.Nat.{ℕ, _≤_, _<_};
+ghost use Prim.Native.Nat.{_≤_};
 ghost use mathlib.Core.Bool.{true, false};
-ghost use lib.ListN.{length};
 ghost use Rattle.schedule.specs.Schedule.{cyclesIn};
-ghost use Rattle.schedule.specs.Verdict.{valid, judgeFrom};
 ghost use Rattle.header.specs.Limits.{maxFrames};
-ghost use Rattle.checker.specs.Check.{answerOf, verdictOn, completed};
-ghost use Rattle.checker.specs.Parts.{Checking, backlogOf};
+ghost use Rattle.checker.specs.Check.{answerOf, verdictOn};
+ghost use Rattle.checker.specs.Parts.{Checking, completed};
 use crate::Verdict;
 use crate::below;
 use crate::frames;

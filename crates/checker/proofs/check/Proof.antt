@@ -20,13 +20,23 @@ slice-aggregate-check-list : tie.Need-slice-aggregate-check-list
 slice-aggregate-check-list c = search needs
 
 check-list-requires : tie.Need-check-list-requires
-check-list-requires c κs = list-fits _ (c .before .before .before .before .before .parse .result) (c .before .before .before .before .before .parse .ensures .0) (c .before .before .answer2 .given .0 .0) (c .before .before .answer2 .given .1)
+check-list-requires c κs =
+    let parsed = c .before .before .before .before .before .parse in
+    let accepted = c .before .before .answer2 .given in
+    list-fits _ (parsed .result) (parsed .ensures .0) (accepted .0 .0) (accepted .1)
 
 returns : tie.Need-returns
-returns c = contract _ _ _ (ticket-refused _ (c .before .before .before .before .parse .result) (c .before .before .before .before .parse .ensures .0) (c .before .answer .given .0 .0) _ (c .before .answer .given .1))
+returns c =
+    let parsed = c .before .before .before .before .parse in
+    let refused = c .before .answer .given in
+    contract _ _ _ (ticket-refused _ (parsed .result) (parsed .ensures .0) (refused .0 .0) _ (refused .1))
 
 returns-2 : tie.Need-returns-2
-returns-2 c = contract _ _ _ (rw (list-read _ (c .before .before .before .before .before .before .parse .result) (c .before .before .before .before .before .before .parse .ensures .0) (c .before .before .before .answer2 .given .0 .0) (c .before .before .before .answer2 .given .1)) (c .check-list .ensures))
+returns-2 c =
+    let parsed = c .before .before .before .before .before .before .parse in
+    let accepted = c .before .before .before .answer2 .given in
+    let list = list-read _ (parsed .result) (parsed .ensures .0) (accepted .0 .0) (accepted .1) in
+    contract _ _ _ (rw list (c .check-list .ensures))
 
 pub check-spec : {M : Type 1} → statement M
 check-spec =

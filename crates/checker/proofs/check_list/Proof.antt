@@ -13,16 +13,25 @@ cast-n : tie.Need-cast-n
 cast-n c = search needs
 
 returns-2 : tie.Need-returns-2
-returns-2 c = length-refused _ _ _ (c .before .before .before .before .before .before .pre) (c .before .before .if1 .left) (λ e. omega (arith, c .if2 .taken))
+returns-2 c =
+    let fits = c .before .before .before .before .before .before .pre in
+    let not-keep = c .before .before .if1 .left in
+    length-refused _ _ _ fits not-keep (λ e. omega (arith, c .if2 .taken))
 
 slice-aggregate-judge : tie.Need-slice-aggregate-judge
 slice-aggregate-judge c = search needs
 
 judge-requires : tie.Need-judge-requires
-judge-requires c κs = checking _ _ _ (c .before .before .before .before .before .before .before .before .pre) (c .before .before .before .before .if1 .left) (omega (arith, c .before .before .if2 .left))
+judge-requires c κs =
+    let fits = c .before .before .before .before .before .before .before .before .pre in
+    let not-keep = c .before .before .before .before .if1 .left in
+    checking _ _ _ fits not-keep (omega (arith, c .before .before .if2 .left))
 
 returns-3 : tie.Need-returns-3
-returns-3 c = checked _ _ _ (c .before .before .before .before .before .before .before .before .before .pre) (c .before .before .before .before .before .if1 .left) (omega (arith, c .before .before .before .if2 .left)) _ (c .judge .ensures)
+returns-3 c =
+    let fits = c .before .before .before .before .before .before .before .before .before .pre in
+    let not-keep = c .before .before .before .before .before .if1 .left in
+    checked _ _ _ fits not-keep (omega (arith, c .before .before .before .if2 .left)) _ (c .judge .ensures)
 
 pub check-list-spec : {M : Type 1} → statement M
 check-list-spec =
