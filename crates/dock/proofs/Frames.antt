@@ -12,7 +12,7 @@ use Rattle.schedule.specs.Count.{bit, howMany}
 use Rattle.schedule.specs.Schedule.{cardOf}
 use Rattle.schedule.specs.Dock.{isIn, put, Dock as ModelDock}
 use Rattle.dock.specs.State.{Shows, mark}
-use Rattle.dock.specs.Parts.{isHeld}
+use Rattle.dock.specs.Drive.{isHeld}
 use Rattle.dock.specs.declared.Dock.{Dock}
 use Rattle.dock.proofs.Counting.{put-count}
 use Rattle.dock.proofs.Marks.{mark-card, mark-held}

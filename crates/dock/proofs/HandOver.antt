@@ -10,7 +10,8 @@ use lib.ListN.{length, getD, set, length-set}
 use lib.Seq.{getD-set-same, getD-set-other}
 use borrow.Author.Tests.{le-leb, lt-leb}
 use Rattle.schedule.specs.Dock.{deliver}
-use Rattle.dock.specs.Parts.{heldIn, Freed, HandedOver}
+use Rattle.dock.specs.Drive.{heldIn}
+use Rattle.dock.specs.Parts.{Freed, HandedOver}
 
 -- n frames are handed over so far; the loop goes on from there
 pub record Handing (from frames : ℕ) (before : List ℕ) (n : ℕ) (now : List ℕ) : Type 0 where

@@ -1,12 +1,15 @@
 pub mod Main
 pub mod Driving
+pub mod Following
+pub mod Past
+pub mod Taken
 pub mod Starting
 pub mod Placing
 pub mod EndStep
 pub mod ReadStep
 pub mod DropStep
+pub mod Freeing
 pub mod Frames
-pub mod Rules
 pub mod HandOver
 pub mod Marks
 pub mod Counting

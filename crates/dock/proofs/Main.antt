@@ -9,11 +9,14 @@ use Rattle.schedule.specs.Dock.{emptyDock, run, Step as ModelStep}
 use Rattle.header.specs.declared.Header.{Header}
 use Rattle.ticket.specs.Ticket.{accepted, parse}
 use Rattle.ticket.specs.Grounds.{Fits}
-use Rattle.dock.specs.State.{Shows, Driving, newDock, startOf, memoryAfter}
+use Rattle.dock.specs.State.{Shows, newDock, startOf, memoryStarted}
+use Rattle.dock.specs.Drive.{memoryDriven, Driving}
 use Rattle.dock.specs.declared.Dock.{Dock}
 use Rattle.dock.specs.declared.Driven.{Driven}
+use Rattle.dock.specs.declared.Step.{Step}
 use Rattle.dock.proofs.Starting as starting
 use Rattle.dock.proofs.Driving as driving
+use Rattle.dock.proofs.Past as past
 
 -- A started dock shows the empty dock of the model.
 pub start-shows : (h : Header) (cards before : List ℕ) → Fits h cards → length cards ≤ length before
@@ -22,7 +25,7 @@ start-shows = starting.start-shows
 
 -- So does what `start` answers to an accepted ticket, with memory for its list.
 pub started-shows : (t before : List ℕ) (h : Header) (cards : List ℕ) → parse t ≡ accepted h cards → length cards ≤ length before
-    → (r : Driven) (after : List ℕ) → (r ≡ startOf (parse t) (length before)) × (after ≡ memoryAfter (parse t) before)
+    → (r : Driven) (after : List ℕ) → (r ≡ startOf (parse t) (length before)) × (after ≡ memoryStarted (parse t) before)
     → (r .refusal ≡ 0) × Shows (h .pool) cards emptyDock (r .dock) after
 started-shows = starting.started-shows
 
@@ -30,3 +33,7 @@ started-shows = starting.started-shows
 pub driving-shows : (m : ℕ) (cards : List ℕ) (steps : List ModelStep) (dock : Dock) (memory : List ℕ)
     → Driving m cards steps dock memory → Shows m cards (run m cards steps emptyDock) dock memory
 driving-shows = driving.driving-shows
+
+-- Places past the list keep their content, whichever record, memory and step are handed in.
+pub past-kept : (dock : Dock) (memory : List ℕ) (a : Step) → drop (dock .frames) (memoryDriven dock memory a) ≡ drop (dock .frames) memory
+past-kept = past.past-kept

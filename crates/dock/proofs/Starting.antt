@@ -5,7 +5,7 @@ use mathlib.Core.Path.{_≡_, refl, sym, _∙_}
 use mathlib.Core.Bool.{false}
 use mathlib.Core.List.{List, _++_}
 use native.Mathlib.Omega.{arith}
-use lib.ListN.{length, drop, length-append, getD-replicate, List·getD-append}
+use lib.ListN.{length, drop, length-append, length-replicate, getD-replicate, List·getD-append}
 use borrow.Author.Tests.{lt-ltb, le-ltb}
 use Rattle.header.specs.declared.Header.{Header}
 use Rattle.header.specs.declared.Answer.the-variants.{Refused}
@@ -17,19 +17,19 @@ use Rattle.ticket.proofs.Accepted.{fits}
 use Rattle.schedule.specs.Dock.{emptyDock}
 use Rattle.schedule.proofs.Sums.{sum-zero}
 use Rattle.header.specs.Limits.{maxCards}
-use Rattle.dock.specs.State.{Shows, newDock, startOf, memoryAfter}
+use Rattle.dock.specs.State.{Shows, newDock, startOf, memoryStarted}
 use Rattle.dock.specs.declared.Dock.{Dock}
 use Rattle.dock.specs.declared.Driven.{Driven}
 
 -- the two clauses of the contract
 abbrev pub Started : Parsed → List ℕ → Driven → List ℕ → Type 0
-Started ticket before r after = (r ≡ startOf ticket (length before)) × (after ≡ memoryAfter ticket before)
+Started ticket before r after = (r ≡ startOf ticket (length before)) × (after ≡ memoryStarted ticket before)
 
 -- a list that is read, and memory
 module _ (h : Header) (cards before : List ℕ) (f : Fits h cards) where
   pub too-short : length before < h .frames → (r : Driven) → r ≡ record { refusal = 10; dock = newDock 0 0 }
       → Started (accepted h cards) before r before
-  unfolding startOf memoryAfter
+  unfolding startOf memoryStarted
   too-short l r e =
       let g : length before < length cards = omega (arith, f .frames) in
       (rw (e, lt-ltb (length before) (length cards) g), rw (lt-ltb (length before) (length cards) g))
@@ -37,7 +37,7 @@ module _ (h : Header) (cards before : List ℕ) (f : Fits h cards) where
   pub started : h .frames ≤ length before → (x : Dock) → x ≡ newDock (h .pool) (h .frames)
       → (after : List ℕ) → after ≡ cards ++ drop (length cards) before
       → Started (accepted h cards) before (record { refusal = 0; dock = x }) after
-  unfolding startOf memoryAfter
+  unfolding startOf memoryStarted
   started l x e after p =
       let g : length cards ≤ length before = omega (arith, f .frames) in
       (rw (e, le-ltb (length before) (length cards) g, f .frames), rw (le-ltb (length before) (length cards) g) p)
@@ -46,7 +46,7 @@ module _ (h : Header) (cards before : List ℕ) (f : Fits h cards) where
 module _ (t : List ℕ) (x : Ticket) (e : x ≡ ticketOf (parse t)) where
   pub ticket-refused : (k : ℕ) → x .answer ≡ Refused k → (r : Driven) → r ≡ record { refusal = k; dock = newDock 0 0 } → (before : List ℕ)
       → Started (parse t) before r before
-  unfolding startOf memoryAfter
+  unfolding startOf memoryStarted
   ticket-refused k q r z before = rw (was-refused t x e k q) (z, refl)
 
 -- the cards at the front of memory, none held, show the empty dock of the model
@@ -61,6 +61,7 @@ empty-shows h cards rest f =
       broken = refl;
       reading = refl;
       busy = λ c g. getD-replicate maxCards c false false g;
+      flags = length-replicate maxCards false;
       room = omega (arith, length-append cards rest);
       marks = λ i g. omega (arith, List·getD-append cards rest 0 i g);
       few = omega (arith, f .frames, f .few);
@@ -77,7 +78,7 @@ start-shows h cards before f l = empty-shows h cards (drop (length cards) before
 -- the answer to an accepted ticket with memory for its list
 pub started-shows : (t before : List ℕ) (h : Header) (cards : List ℕ) → parse t ≡ accepted h cards → length cards ≤ length before
     → (r : Driven) (after : List ℕ) → Started (parse t) before r after → (r .refusal ≡ 0) × Shows (h .pool) cards emptyDock (r .dock) after
-unfolding startOf memoryAfter
+unfolding startOf memoryStarted
 started-shows t before h cards e l r after s =
     let answer : r ≡ record { refusal = 0; dock = newDock (h .pool) (length cards) } = s .0 ∙ rw (e, le-ltb (length before) (length cards) l) in
     let memory : after ≡ cards ++ drop (length cards) before = s .1 ∙ rw (e, le-ltb (length before) (length cards) l) in

@@ -1,2 +1,4 @@
 pub mod State
+pub mod Records
+pub mod Drive
 pub mod Parts

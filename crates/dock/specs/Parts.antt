@@ -1,39 +1,13 @@
--- What the functions behind `drive` answer: whether a read takes a buffer, a dock that is broken off, and the frames handed over.
+-- What the functions behind `drive` answer: the frames handed over at the end of a cycle, and one step where memory has a place for each frame.
 -- Assumes nothing.
 use Prim.Native.Nat.{ℕ, _-_, _≤_, _<_}
 use mathlib.Core.Path.{_≡_}
-use mathlib.Core.Bool.{Bool, true, not, _&&_}
 use mathlib.Core.List.{List}
-use lib.Dec.{leb, ltb}
 use lib.ListN.{length, getD}
 use Rattle.schedule.specs.Dock.{deliver}
+use Rattle.dock.specs.Drive.{heldIn, recordAfter, bytesAfter}
 use Rattle.dock.specs.declared.Dock.{Dock}
-
--- the frame with the byte b is held
-abbrev pub isHeld : ℕ → Bool
-isHeld b = leb 128 b
-
--- Frame i, whose byte is b, is neither held nor handed over, and not every frame is held.
-abbrev pub takesBuffer : Dock → ℕ → ℕ → Bool
-takesBuffer dock i b = not (isHeld b) && (leb (dock .delivered) i && ltb (dock .holding) (dock .frames))
-
--- broken off, and nothing else changed
-abbrev pub brokenOff : Dock → Dock
-brokenOff dock =
-    record {
-      frames = dock .frames;
-      pool = dock .pool;
-      delivered = dock .delivered;
-      holding = dock .holding;
-      ended = dock .ended;
-      broken = true;
-      reading = dock .reading;
-      busy = dock .busy;
-    }
-
--- the frame whose byte stands at i is held
-abbrev pub heldIn : List ℕ → ℕ → Bool
-heldIn memory i = isHeld (getD memory i 0)
+use Rattle.dock.specs.declared.Step.{Step}
 
 -- The bytes of the frames from `from` to n are 128 less, and no other byte is changed.
 pub record Freed (from n : ℕ) (before after : List ℕ) : Type 0 where
@@ -47,3 +21,9 @@ pub record Freed (from n : ℕ) (before after : List ℕ) : Type 0 where
 pub record HandedOver (from frames : ℕ) (before : List ℕ) (n : ℕ) (after : List ℕ) : Type 0 where
   pub count : n ≡ deliver (heldIn before) (frames - from) from
   pub bytes : Freed from n before after
+
+-- One step.
+pub record Advanced (dock : Dock) (step : Step) (before : List ℕ) (r : Dock) (after : List ℕ) : Type 0 where
+  pub dock-is : r ≡ recordAfter dock before step
+  pub memory-is : after ≡ bytesAfter dock before step
+  pub same-length : length after ≡ length before

@@ -1,16 +1,15 @@
 -- The dock as code (document 01, "The dock"): a small record that goes by value, and a lent byte for each frame. `Shows` says which dock of
--- the model (crates/schedule/specs/Dock.antt) a record and its memory are; what one call does is said by `Drove`.
+-- the model (crates/schedule/specs/Dock.antt) a record and its memory are; what `start` does is said here, what `drive` does in specs/Drive.antt.
 -- Assumes nothing.
 use Prim.Native.Nat.{ℕ, _+_, _≤_, _<_, min}
 use mathlib.Core.Path.{_≡_}
 use mathlib.Core.Bool.{Bool, true, false, not, cond}
-use mathlib.Core.List.{List, [], _∷_, _++_}
+use mathlib.Core.List.{List}
 use lib.Dec.{ltb}
-use lib.ListN.{length, getD, drop, replicate}
+use lib.ListN.{length, getD, replicate}
 use Rattle.schedule.specs.Count.{written}
 use Rattle.schedule.specs.Schedule.{cardOf}
-use Rattle.schedule.specs.Dock.{emptyDock, isIn, isEmpty, holding, readFrame, dropFrame, endCycle, Step as ModelStep, Dock as ModelDock}
-use Rattle.schedule.specs.Dock as model
+use Rattle.schedule.specs.Dock.{isIn, isEmpty, holding, readFrame, dropFrame, endCycle, Step as ModelStep, Dock as ModelDock}
 use Rattle.header.specs.Limits.{maxCards, maxFrames}
 use Rattle.ticket.specs.Ticket.{Parsed, accepted, refused}
 use Rattle.dock.specs.declared.Dock.{Dock}
@@ -42,6 +41,7 @@ pub record Shows (m : ℕ) (cards : List ℕ) (d : ModelDock) (dock : Dock) (mem
   pub broken : dock .broken ≡ d .broken
   pub reading : dock .reading ≡ not (isEmpty (d .busy))
   pub busy : (c : ℕ) → c < maxCards → getD (dock .busy) c false ≡ isIn c (d .busy)
+  pub flags : length (dock .busy) ≡ maxCards
   -- a byte for each frame
   pub room : length cards ≤ length memory
   pub marks : (i : ℕ) → i < length cards → getD memory i 0 ≡ mark cards (d .held) i
@@ -50,24 +50,6 @@ pub record Shows (m : ℕ) (cards : List ℕ) (d : ModelDock) (dock : Dock) (mem
   pub each-card : (i : ℕ) → i < length cards → cardOf cards i < maxCards
   pub inside : d .delivered ≤ length cards
   pub ahead : (i : ℕ) → i < length cards → d .held i ≡ true → d .delivered ≤ i
-
--- One call of `drive`: the dock and the memory before it, the step, the answer, and the memory after it.
-pub record Drove (dock : Dock) (step : Step) (before : List ℕ) (r : Answer) (after : List ℕ) : Type 0 where
-  -- Whichever dock of the model is shown before the call: the model's step of it is shown after the call.
-  pub follows :
-      (m : ℕ) (cards : List ℕ) (d : ModelDock) → Shows m cards d dock before
-      → (r .refusal ≡ 0) × Shows m cards (model.step m cards (stepOf step) d) (r .dock) after
-  -- Lent memory with fewer than L places is refused by 10, and nothing changes.
-  pub short : length before < dock .frames → (r ≡ record { refusal = 10; dock = dock }) × (after ≡ before)
-  -- Places past the list keep their content, whatever was handed in.
-  pub past : drop (dock .frames) after ≡ drop (dock .frames) before
-
--- Calls of `drive` one after the other, from a dock and memory that show the empty dock: the steps so far, and the dock and the memory now.
-pub data Driving (m : ℕ) (cards : List ℕ) : List ModelStep → Dock → List ℕ → Type 0 where
-  begin : (dock : Dock) (memory : List ℕ) → Shows m cards emptyDock dock memory → Driving m cards [] dock memory
-  next :
-      (steps : List ModelStep) (dock : Dock) (before : List ℕ) (a : Step) (r : Answer) (after : List ℕ)
-      → Driving m cards steps dock before → Drove dock a before r after → Driving m cards (steps ++ (stepOf a ∷ [])) (r .dock) after
 
 -- "At the start it is empty: no frame handed over or held, no read, no cycle ended, not broken off."
 abbrev pub newDock : ℕ → ℕ → Dock
@@ -90,12 +72,6 @@ startOf (accepted h cards) places =
 startOf (refused k) places = record { refusal = k; dock = newDock 0 0 }
 
 -- The memory after `start`: each frame's card, none held; later places keep their content, and a refusal changes nothing.
-unfoldable pub memoryAfter : Parsed → List ℕ → List ℕ
-memoryAfter (accepted h cards) before = cond (ltb (length before) (length cards)) before (written cards before)
-memoryAfter (refused k) before = before
-
--- What one step does behind `drive`, where memory has a place for each frame.
-pub record Advanced (dock : Dock) (step : ModelStep) (before : List ℕ) (r : Dock) (after : List ℕ) : Type 0 where
-  pub follows : (m : ℕ) (cards : List ℕ) (d : ModelDock) → Shows m cards d dock before → Shows m cards (model.step m cards step d) r after
-  pub past : drop (dock .frames) after ≡ drop (dock .frames) before
-  pub same-length : length after ≡ length before
+unfoldable pub memoryStarted : Parsed → List ℕ → List ℕ
+memoryStarted (accepted h cards) before = cond (ltb (length before) (length cards)) before (written cards before)
+memoryStarted (refused k) before = before

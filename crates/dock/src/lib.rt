@@ -5,7 +5,8 @@ ghost use Prim.Native.Nat.{_≤_};
 ghost use lib.ListN.{length, take, drop};
 ghost use Rattle.ticket.specs.Ticket.{accepted, parse};
 ghost use Rattle.ticket.specs.Grounds.{Fits};
-ghost use Rattle.dock.specs.State.{Drove, newDock, startOf, memoryAfter};
+ghost use Rattle.dock.specs.State.{newDock, startOf, memoryStarted};
+ghost use Rattle.dock.specs.Drive.{driveOf, memoryDriven, Follows};
 
 mod steps;
 
@@ -81,7 +82,7 @@ fn place(cards: &[u8], memory: &mut [u8])
 fn start_list(h: Header, card: &[u8], memory: &mut [u8]) -> Driven
     requires { ⌜ Fits h (take (h .frames) (now card)) ⌝ }
     ensures answer { λ r. ⌜ r ≡ startOf (accepted h (take (h .frames) (now (card .entry)))) (length (now (memory .entry))) ⌝ }
-    ensures memory { λ r. ⌜ now (memory .exit) ≡ memoryAfter (accepted h (take (h .frames) (now (card .entry)))) (now (memory .entry)) ⌝ }
+    ensures memory { λ r. ⌜ now (memory .exit) ≡ memoryStarted (accepted h (take (h .frames) (now (card .entry)))) (now (memory .entry)) ⌝ }
 {
     let n = h.frames as usize;
     if memory.len() < n {
@@ -97,7 +98,7 @@ fn start_list(h: Header, card: &[u8], memory: &mut [u8]) -> Driven
 // An empty dock for the list and the pool of a ticket; memory gets a byte for each frame.
 pub fn start(ticket: &[u8], memory: &mut [u8]) -> Driven
     ensures answer { λ r. ⌜ r ≡ startOf (parse (now (ticket .entry))) (length (now (memory .entry))) ⌝ }
-    ensures memory { λ r. ⌜ now (memory .exit) ≡ memoryAfter (parse (now (ticket .entry))) (now (memory .entry)) ⌝ }
+    ensures memory { λ r. ⌜ now (memory .exit) ≡ memoryStarted (parse (now (ticket .entry))) (now (memory .entry)) ⌝ }
 {
     let read = ticket::parse(ticket);
     let answer = read.answer;
@@ -108,9 +109,11 @@ pub fn start(ticket: &[u8], memory: &mut [u8]) -> Driven
     }
 }
 
-// One step of the dock.
+// One step of the dock. `answer` and `memory` say the whole outcome for every record, step and memory; `follows`, that it is the model's step.
 pub fn drive(dock: Dock, step: Step, memory: &mut [u8]) -> Driven
-    ensures { λ r. ⌜ Drove dock step (now (memory .entry)) r (now (memory .exit)) ⌝ }
+    ensures answer { λ r. ⌜ r ≡ driveOf dock (now (memory .entry)) step ⌝ }
+    ensures memory { λ r. ⌜ now (memory .exit) ≡ memoryDriven dock (now (memory .entry)) step ⌝ }
+    ensures follows { λ r. ⌜ Follows dock step (now (memory .entry)) r (now (memory .exit)) ⌝ }
 {
     let frames = dock.frames as usize;
     if memory.len() < frames {

@@ -2,18 +2,19 @@
 // A frame's byte is its card, which is below 32, and 128 more while the frame is held.
 ghost use mathlib.Core.Path.{_≡_};
 ghost use mathlib.Core.Bool.{false};
-ghost use Prim.Native.Nat.{_+_, _-_, _%_, _≤_, min};
+ghost use Prim.Native.Nat.{_+_, _-_, _≤_, min};
 ghost use lib.ListN.{length};
-ghost use Rattle.schedule.specs.Dock.{readFrame, dropFrame, endCycle};
-ghost use Rattle.dock.specs.State.{stepOf, mostCycles, Advanced};
-ghost use Rattle.dock.specs.Parts.{takesBuffer, brokenOff, HandedOver};
+ghost use Rattle.dock.specs.State.{mostCycles};
+ghost use Rattle.dock.specs.Records.{brokenOff};
+ghost use Rattle.dock.specs.Drive.{cardIn, takesBuffer};
+ghost use Rattle.dock.specs.Parts.{Advanced, HandedOver};
 use crate::Dock;
 use crate::Step;
 use schedule::Position;
 
 // The card in a frame's byte.
 fn card_in(b: u8) -> usize
-    ensures { λ r. ⌜ r ≡ b % 32 ⌝ }
+    ensures { λ r. ⌜ r ≡ cardIn b ⌝ }
 {
     (b % 32) as usize
 }
@@ -27,15 +28,15 @@ fn break_off(dock: Dock) -> Dock
     d
 }
 
-// Whether a read of frame i, whose byte is b, takes a buffer: it is neither held nor handed over. Where a frame is not held, fewer
+// Whether a read of the frame at p, whose byte is b, takes a buffer: it is neither held nor handed over. Where a frame is not held, fewer
 // than all are; this is asked too, so that the count stays in its range whatever is handed in.
-fn takes_buffer(dock: Dock, i: u16, b: u8) -> bool
-    ensures { λ r. ⌜ r ≡ takesBuffer dock i b ⌝ }
+fn takes_buffer(dock: Dock, p: Position, b: u8) -> bool
+    ensures { λ r. ⌜ r ≡ takesBuffer dock (p .0) b ⌝ }
 {
     if 128 <= b {
         return false;
     }
-    if i < dock.delivered {
+    if p.0 < dock.delivered {
         return false;
     }
     dock.holding < dock.frames
@@ -44,7 +45,7 @@ fn takes_buffer(dock: Dock, i: u16, b: u8) -> bool
 // The read of a frame uses its card's turn.
 fn read_frame(dock: Dock, p: Position, memory: &mut [u8]) -> Dock
     requires { ⌜ (dock .frames ≤ length (now memory)) × (dock .broken ≡ false) ⌝ }
-    ensures { λ r. ⌜ Advanced dock (readFrame (p .0)) (now (memory .entry)) r (now (memory .exit)) ⌝ }
+    ensures { λ r. ⌜ Advanced dock (Step.Read p) (now (memory .entry)) r (now (memory .exit)) ⌝ }
 {
     let i = p.0;
     if dock.frames <= i {
@@ -59,7 +60,7 @@ fn read_frame(dock: Dock, p: Position, memory: &mut [u8]) -> Dock
     }
     d.busy[c] = true;
     d.reading = true;
-    if takes_buffer(dock, i, b) {
+    if takes_buffer(dock, p, b) {
         memory[at] = b + 128;
         d.holding = d.holding + 1;
         return d;
@@ -70,7 +71,7 @@ fn read_frame(dock: Dock, p: Position, memory: &mut [u8]) -> Dock
 // A drop frees the buffer of a held frame.
 fn drop_frame(dock: Dock, p: Position, memory: &mut [u8]) -> Dock
     requires { ⌜ (dock .frames ≤ length (now memory)) × (dock .broken ≡ false) ⌝ }
-    ensures { λ r. ⌜ Advanced dock (dropFrame (p .0)) (now (memory .entry)) r (now (memory .exit)) ⌝ }
+    ensures { λ r. ⌜ Advanced dock (Step.Drop p) (now (memory .entry)) r (now (memory .exit)) ⌝ }
 {
     let i = p.0;
     if dock.frames <= i {
@@ -132,7 +133,7 @@ fn one_more(ended: u32) -> u32
 // The end of a cycle costs the frames that it hands over, and every card may read again.
 fn end_cycle(dock: Dock, memory: &mut [u8]) -> Dock
     requires { ⌜ (dock .frames ≤ length (now memory)) × (dock .broken ≡ false) ⌝ }
-    ensures { λ r. ⌜ Advanced dock endCycle (now (memory .entry)) r (now (memory .exit)) ⌝ }
+    ensures { λ r. ⌜ Advanced dock Step.End (now (memory .entry)) r (now (memory .exit)) ⌝ }
 {
     if dock.pool < dock.holding {
         return break_off(dock);
@@ -153,7 +154,7 @@ fn end_cycle(dock: Dock, memory: &mut [u8]) -> Dock
 // One step. Nothing changes a dock that is broken off.
 pub(crate) fn advance(dock: Dock, step: Step, memory: &mut [u8]) -> Dock
     requires { ⌜ dock .frames ≤ length (now memory) ⌝ }
-    ensures { λ r. ⌜ Advanced dock (stepOf step) (now (memory .entry)) r (now (memory .exit)) ⌝ }
+    ensures { λ r. ⌜ Advanced dock step (now (memory .entry)) r (now (memory .exit)) ⌝ }
 {
     if dock.broken {
         return dock;

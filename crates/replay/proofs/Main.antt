@@ -8,23 +8,13 @@ use lib.ListN.{length}
 use Rattle.schedule.specs.Greedy.{lazyPrefetching}
 use Rattle.header.specs.declared.Header.{Header}
 use Rattle.ticket.specs.Ticket.{accepted, parse}
-use Rattle.replay.specs.Run.{runOf, ranOf, Finished}
-use Rattle.replay.specs.declared.Run.{Run}
-use Rattle.replay.specs.declared.Answer.the-variants.{Ran}
+use Rattle.replay.specs.Numbers.{numbersOf}
+use Rattle.replay.specs.Run.{ranOf, Finished}
 use Rattle.replay.proofs.Own as own
 
 -- The read plan of every accepted ticket's list is run to its end: it breaks no rule, hands over everything in exactly T cycles, and its
 -- peak is within the pool.
 pub own-plan-runs :
     (t : List ℕ) (h : Header) (cards : List ℕ) → parse t ≡ accepted h cards
-    → (r : Run) × (ranOf (parse t) (lazyPrefetching (h .pool) cards .cycles) ≡ Ran r) × Finished (h .pool) (length cards) (lazyPrefetching (h .pool) cards .T) r
-own-plan-runs t h cards e = (
-  runOf (h .pool) cards (lazyPrefetching (h .pool) cards .cycles),
-  own.own-run t h cards e,
-  record {
-    breaks-no-rule = own.own-unbroken t h cards e;
-    delivers-all = own.own-delivers t h cards e;
-    needs-T = own.own-complete t h cards e;
-    within-pool = own.own-peak t h cards e;
-  },
-)
+    → Finished (h .pool) (length cards) (lazyPrefetching (h .pool) cards .T) (numbersOf (ranOf (parse t) (lazyPrefetching (h .pool) cards .cycles)))
+own-plan-runs = own.own-finished

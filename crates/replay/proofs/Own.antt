@@ -18,7 +18,8 @@ use Rattle.schedule.proofs.Main.{read-correct, read-length, correct-drives}
 use Rattle.header.specs.declared.Header.{Header}
 use Rattle.ticket.specs.Ticket.{accepted, parse}
 use Rattle.ticket.proofs.Main.{accepted-fits}
-use Rattle.replay.specs.Run.{outcomeOf, runOf, ranOf}
+use Rattle.replay.specs.Numbers.{completeIn, neededIn, numbersOf}
+use Rattle.replay.specs.Run.{outcomeOf, runOf, ranOf, Finished}
 use Rattle.replay.specs.declared.Answer.the-variants.{Ran}
 use Rattle.replay.specs.declared.Outcome.the-variants.{Complete}
 
@@ -43,18 +44,20 @@ module _ (t : List ℕ) (h : Header) (cards : List ℕ) (e : parse t ≡ accepte
   drives : Drives (h .pool) cards cycles (cyclesIn cycles)
   drives = correct-drives (h .pool) cards cycles (read-correct (h .pool) cards pool)
 
-  pub own-run : ranOf (parse t) cycles ≡ Ran (runOf (h .pool) cards cycles)
+  own-run : ranOf (parse t) cycles ≡ Ran (runOf (h .pool) cards cycles)
   unfolding ranOf
   own-run = rw (e, eq-eqb (length cycles) (length cards) (read-correct (h .pool) cards pool .one-each))
 
-  pub own-unbroken : runOf (h .pool) cards cycles .broken ≡ false
-  own-unbroken = drives .breaks-no-rule
+  own-outcome : runOf (h .pool) cards cycles .outcome ≡ Complete (record { 0 = lazyPrefetching (h .pool) cards .T })
+  own-outcome = ap outcomeOf (drives .needs-T ∙ ap complete (read-length (h .pool) cards pool))
 
-  pub own-delivers : runOf (h .pool) cards cycles .delivered ≡ length cards
-  own-delivers = drives .delivers-all
-
-  pub own-complete : runOf (h .pool) cards cycles .outcome ≡ Complete (record { 0 = lazyPrefetching (h .pool) cards .T })
-  own-complete = ap outcomeOf (drives .needs-T ∙ ap complete (read-length (h .pool) cards pool))
-
-  pub own-peak : runOf (h .pool) cards cycles .peak ≤ h .pool
-  own-peak = peak-within (h .pool) cards (h .pool) (stepsOf cycles) emptyDock (drives .within-pool)
+  pub own-finished : Finished (h .pool) (length cards) (lazyPrefetching (h .pool) cards .T) (numbersOf (ranOf (parse t) cycles))
+  own-finished =
+      rw own-run
+      (record {
+        not-refused = refl;
+        breaks-no-rule = drives .breaks-no-rule;
+        delivers-all = (ap completeIn own-outcome, drives .delivers-all);
+        needs-T = ap (λ o. neededIn o .0) own-outcome;
+        within-pool = peak-within (h .pool) cards (h .pool) (stepsOf cycles) emptyDock (drives .within-pool);
+      })

@@ -21,9 +21,11 @@ use Rattle.ticket.proofs.Answers.{was-refused}
 use Rattle.replay.specs.declared.Run.{Run}
 use Rattle.replay.specs.declared.Outcome.{Outcome}
 use Rattle.replay.specs.declared.Outcome.the-variants.{Complete}
+use Rattle.replay.specs.declared.Answer.{Answer}
 use Rattle.replay.specs.declared.Answer.the-variants.{Ran, Refused}
 use Rattle.replay.specs.declared.track.Progress.{Progress}
 use Rattle.dock.proofs.Starting.{empty-shows}
+use Rattle.replay.specs.Numbers.{numbersOf}
 use Rattle.replay.specs.Run.{outcomeOf, runOf, ranOf}
 use Rattle.replay.specs.Progress.{lastCycle, Tracks, Reached, CyclesMade, atStart, answered}
 
@@ -38,7 +40,9 @@ pub answer-given :
 answer-given p e o = rw (← e, o)
 
 -- what is answered after the last cycle
-module _ (m : ℕ) (cards cycles : List ℕ) {p : Progress} {memory : List ℕ} (v : Reached m cards (stepsOf cycles) (cyclesIn cycles) p memory) (low : cyclesIn cycles ≤ lastCycle) where
+module _
+    (m : ℕ) (cards cycles : List ℕ) {p : Progress} {memory : List ℕ} (v : Reached m cards (stepsOf cycles) (cyclesIn cycles) p memory)
+    (low : cyclesIn cycles ≤ lastCycle) where
   ended-is : p .dock .ended ≡ run m cards (stepsOf cycles) emptyDock .ended
   ended-is = omega (arith, v .tracks .shows .ended, v .ends)
 
@@ -81,7 +85,9 @@ module _ (h : Header) (memory cycles : List ℕ) (f : Fits h (take (h .frames) m
         rw (start ∙ ap (atStart (h .pool)) (sym (f .frames)))
         (rw (take-append-drop (h .frames) memory) at (start-reached h cards (drop (h .frames) memory) f cycles))
 
-    module _ (last : ℕ) (l : last ≡ cyclesIn cycles) (low : last ≤ lastCycle) (q : Progress) (after : List ℕ) (v : CyclesMade cycles 0 last p memory q after) where
+    module _
+        (last : ℕ) (l : last ≡ cyclesIn cycles) (low : last ≤ lastCycle) (q : Progress) (after : List ℕ)
+        (v : CyclesMade cycles 0 last p memory q after) where
       made : Reached (h .pool) cards (stepsOf cycles) (cyclesIn cycles) q after
       made = rw l at (v .follows (h .pool) cards reached)
 
@@ -92,6 +98,11 @@ module _ (h : Header) (memory cycles : List ℕ) (f : Fits h (take (h .frames) m
       unfolding ranOf
       plan-ran r a =
           rw (eq-eqb (length cycles) (length cards) (e ∙ sym (f .frames)), a, answer-is (h .pool) cards cycles made (omega arith))
+
+-- the two clauses of `run_plan`
+pub contract : (t cycles : List ℕ) (r : Answer) → r ≡ ranOf (parse t) cycles
+    → (r ≡ ranOf (parse t) cycles) × (numbersOf r ≡ numbersOf (ranOf (parse t) cycles))
+contract t cycles r e = (e, ap numbersOf e)
 
 -- the ticket's reader has answered
 module _ (t : List ℕ) (x : Ticket) (e : x ≡ ticketOf (parse t)) where

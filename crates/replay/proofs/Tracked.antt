@@ -12,7 +12,8 @@ use Rattle.schedule.proofs.Outcome.{run-append}
 use Rattle.dock.specs.declared.Dock.{Dock}
 use Rattle.dock.specs.declared.Step.{Step as CodeStep}
 use Rattle.replay.specs.declared.track.Progress.{Progress}
-use Rattle.dock.specs.State.{Shows, Drove, stepOf, mostCycles}
+use Rattle.dock.specs.State.{Shows, stepOf, mostCycles}
+use Rattle.dock.specs.Drive.{Follows}
 use Rattle.replay.specs.Progress.{Tracks, Tracked}
 
 -- the first of two outcomes that is complete
@@ -106,7 +107,8 @@ needed-le true all n e d h g = h
 needed-le false true n e d h g = g
 needed-le false false n e d h g = omega arith
 
-module _ {p : Progress} {s : CodeStep} {before after : List ℕ} {x : Dock} {k : ℕ} (drove : Drove (p .dock) s before (record { refusal = k; dock = x }) after) where
+module _ {p : Progress} {s : CodeStep} {before after : List ℕ} {x : Dock} {k : ℕ}
+    (drove : Follows (p .dock) s before (record { refusal = k; dock = x }) after) where
   module _ (m : ℕ) (cards : List ℕ) (steps : List Step) (v : Tracks m cards steps p before) (low : run m cards steps emptyDock .ended < mostCycles) where
     abbrev old : ModelDock
     old = run m cards steps emptyDock
@@ -142,7 +144,9 @@ module _ {p : Progress} {s : CodeStep} {before after : List ℕ} {x : Dock} {k :
           shows = new-shows;
           outcome-is = outcome-noted;
           none-needed = not-needed (p .complete) (leb (x .frames) (x .delivered)) (p .needed) (x .ended) (v .none-needed);
-          needed-few = needed-le (p .complete) (leb (x .frames) (x .delivered)) (p .needed) (x .ended) (new .ended) (omega (arith, v .needed-few, counted)) (omega (arith, new-ended));
+          needed-few =
+              needed-le (p .complete) (leb (x .frames) (x .delivered)) (p .needed) (x .ended) (new .ended) (omega (arith, v .needed-few, counted))
+              (omega (arith, new-ended));
           peak-is = peak-noted;
         }
 

@@ -2,13 +2,14 @@
 -- Assumes nothing.
 use Prim.Native.Nat.{ℕ, _≤_}
 use mathlib.Core.Path.{_≡_}
-use mathlib.Core.Bool.{false, cond}
+use mathlib.Core.Bool.{true, false, cond}
 use mathlib.Core.List.{List}
 use lib.Dec.{eqb}
 use lib.ListN.{length}
 use Rattle.schedule.specs.Dock.{emptyDock, run}
 use Rattle.schedule.specs.Drive.{complete, unfinished, Outcome as ModelOutcome, outcome, peak, stepsOf}
 use Rattle.ticket.specs.Ticket.{Parsed, accepted, refused}
+use Rattle.replay.specs.Numbers.{Numbers}
 use Rattle.replay.specs.declared.Run.{Run}
 use Rattle.replay.specs.declared.Outcome.{Outcome}
 use Rattle.replay.specs.declared.Outcome.the-variants.{Complete, Unfinished}
@@ -36,10 +37,11 @@ unfoldable pub ranOf : Parsed → List ℕ → Answer
 ranOf (accepted h cards) cycles = cond (eqb (length cycles) (length cards)) (Ran (runOf (h .pool) cards cycles)) (Refused 11)
 ranOf (refused k) cycles = Refused k
 
--- What the answer r says of a plan that does what demand 3 asks of a read plan of T cycles, for a pool of m and so many frames: it breaks
--- no rule, hands over everything in exactly T cycles, and does not hold more than the pool after a cycle.
-pub record Finished (m frames T : ℕ) (r : Run) : Type 0 where
-  pub breaks-no-rule : r .broken ≡ false
-  pub delivers-all : r .delivered ≡ frames
-  pub needs-T : r .outcome ≡ Complete (record { 0 = T })
-  pub within-pool : r .peak ≤ m
+-- What the numbers of an answer say of a plan that does what demand 3 asks of a read plan of T cycles, for a pool of m and so many frames: it
+-- breaks no rule, hands over everything in exactly T cycles, and does not hold more than the pool after a cycle.
+pub record Finished (m frames T : ℕ) (n : Numbers) : Type 0 where
+  pub not-refused : n .refusal ≡ 0
+  pub breaks-no-rule : n .broken ≡ false
+  pub delivers-all : (n .complete ≡ true) × (n .delivered ≡ frames)
+  pub needs-T : n .needed .0 ≡ T
+  pub within-pool : n .peak ≤ m

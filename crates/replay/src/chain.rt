@@ -12,6 +12,7 @@ use crate::track;
 use crate::track::Progress;
 use dock::Step;
 use header::limits;
+use schedule::Cycle;
 use schedule::Position;
 
 // Stands for no position.
@@ -35,16 +36,17 @@ fn link(plan: &[u16], first: &mut [u16], after: &mut [u16])
 fn reads(
     p: Progress,
     plan: &[u16],
-    cycle: u16,
+    cycle: Cycle,
     first: &[u16],
     after: &[u16],
     memory: &mut [u8],
 ) -> Progress
-    requires { ⌜ (cycle ≤ maxFrames) × Small (now plan) × Chains (now plan) 0 (now first) (now after) ⌝ }
-    ensures { λ r. ⌜ ReadsMade (now (plan .entry)) cycle (length (now (plan .entry))) p (now (memory .entry)) r (now (memory .exit)) ⌝ }
+    requires { ⌜ (cycle .0 ≤ maxFrames) × Small (now plan) × Chains (now plan) 0 (now first) (now after) ⌝ }
+    ensures { λ r. ⌜ ReadsMade (now (plan .entry)) (cycle .0) (length (now (plan .entry))) p (now (memory .entry)) r (now (memory .exit)) ⌝ }
 {
     let mut q = p;
-    let mut x = first[cycle as usize];
+    let c = cycle.0;
+    let mut x = first[c as usize];
     while x != NONE {
         q = track::track(q, Step::Read(Position(x)), memory);
         x = after[x as usize];
@@ -56,30 +58,31 @@ fn reads(
 fn linked_to(
     p: Progress,
     plan: &[u16],
-    last: u16,
+    last: Cycle,
     first: &[u16],
     after: &[u16],
     memory: &mut [u8],
 ) -> Progress
-    requires { ⌜ (last ≤ maxFrames) × Small (now plan) × Chains (now plan) 0 (now first) (now after) ⌝ }
-    ensures { λ r. ⌜ CyclesMade (now (plan .entry)) 0 last p (now (memory .entry)) r (now (memory .exit)) ⌝ }
+    requires { ⌜ (last .0 ≤ maxFrames) × Small (now plan) × Chains (now plan) 0 (now first) (now after) ⌝ }
+    ensures { λ r. ⌜ CyclesMade (now (plan .entry)) 0 (last .0) p (now (memory .entry)) r (now (memory .exit)) ⌝ }
 {
+    let end = last.0;
     let mut q = p;
     let mut t: u16 = 0;
-    while t < last {
+    while t < end {
         t += 1;
-        q = reads(q, plan, t, first, after, memory);
+        q = reads(q, plan, Cycle(t), first, after, memory);
         q = track::track(q, Step::End, memory);
     }
     q
 }
 
 // All cycles of a plan, along chains where the tables have a place for each.
-pub(crate) fn all_cycles(p: Progress, plan: &[u16], last: u16, memory: &mut [u8]) -> Progress
-    requires { ⌜ (length (now plan) ≤ maxFrames) × (last ≡ cyclesIn (now plan)) ⌝ }
-    ensures { λ r. ⌜ CyclesMade (now (plan .entry)) 0 last p (now (memory .entry)) r (now (memory .exit)) ⌝ }
+pub(crate) fn all_cycles(p: Progress, plan: &[u16], last: Cycle, memory: &mut [u8]) -> Progress
+    requires { ⌜ (length (now plan) ≤ maxFrames) × (last .0 ≡ cyclesIn (now plan)) ⌝ }
+    ensures { λ r. ⌜ CyclesMade (now (plan .entry)) 0 (last .0) p (now (memory .entry)) r (now (memory .exit)) ⌝ }
 {
-    if limits::MAX_FRAMES < last {
+    if limits::MAX_FRAMES < last.0 {
         return cycle::cycles_to(p, plan, last, memory);
     }
     let mut first = [NONE; 4097];

@@ -3,6 +3,7 @@ ghost use mathlib.Core.Path.{_≡_};
 ghost use lib.ListN.{take};
 ghost use Rattle.ticket.specs.Ticket.{accepted, parse};
 ghost use Rattle.ticket.specs.Grounds.{Fits};
+ghost use Rattle.replay.specs.Numbers.{numbersOf};
 ghost use Rattle.replay.specs.Run.{ranOf};
 
 mod chain;
@@ -50,7 +51,8 @@ fn run_list(h: Header, plan: &[u16], memory: &mut [u8]) -> Answer
 
 // Runs a plan on the dock of a ticket's list and pool, whatever the ticket's mode.
 pub fn run_plan(ticket: &[u8], plan: &[u16]) -> Answer
-    ensures { λ r. ⌜ r ≡ ranOf (parse (now (ticket .entry))) (now (plan .entry)) ⌝ }
+    ensures answer { λ r. ⌜ r ≡ ranOf (parse (now (ticket .entry))) (now (plan .entry)) ⌝ }
+    ensures numbers { λ r. ⌜ numbersOf r ≡ numbersOf (ranOf (parse (now (ticket .entry))) (now (plan .entry))) ⌝ }
 {
     let read = ticket::parse(ticket);
     let answer = read.answer;

@@ -1,6 +1,6 @@
 -- `replay::run_plan` meets its contract.
 -- Assumes nothing.
-use Rattle.replay.proofs.Runs.{ticket-refused}
+use Rattle.replay.proofs.Runs.{ticket-refused, contract}
 use Rattle.ticket.proofs.Answers.{list-fits, list-read}
 use borrow.Author.Needs.{needs}
 use Rattle.replay.proofs.run_plan.Statement.{statement}
@@ -28,13 +28,13 @@ returns : tie.Need-returns
 returns c =
     let p = c .before .before .before .before .parse in
     let a = c .before .answer .given in
-    ticket-refused _ (p .result) (p .ensures .0) (a .0 .0) _ (a .1)
+    contract _ _ _ (ticket-refused _ (p .result) (p .ensures .0) (a .0 .0) _ (a .1))
 
 returns-2 : tie.Need-returns-2
 returns-2 c =
     let p = c .before .before .before .before .before .before .before .parse in
     let a = c .before .before .before .before .answer2 .given in
-    rw (list-read _ (p .result) (p .ensures .0) (a .0 .0) (a .1)) (c .before .run-list .ensures)
+    contract _ _ _ (rw (list-read _ (p .result) (p .ensures .0) (a .0 .0) (a .1)) (c .before .run-list .ensures))
 
 pub run-plan-spec : {M : Type 1} → statement M
 run-plan-spec =

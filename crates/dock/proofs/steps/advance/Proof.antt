@@ -1,6 +1,6 @@
 -- `dock::steps::advance` meets its contract.
 -- Assumes nothing.
-use Rattle.dock.proofs.Rules.{stays-broken}
+use Rattle.dock.proofs.Taken.{stays-broken}
 use borrow.Author.Needs.{needs}
 use Rattle.dock.proofs.steps.advance.Statement.{statement}
 use Rattle.dock.proofs.steps.advance.Tie as tie

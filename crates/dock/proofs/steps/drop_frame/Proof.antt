@@ -1,6 +1,7 @@
 -- `dock::steps::drop_frame` meets its contract.
 -- Assumes nothing.
-use Rattle.dock.proofs.DropStep.{drop-past-list, drop-after-read, drop-not-held, drop-none-held, drop-held}
+use native.Mathlib.Omega.{arith}
+use Rattle.dock.proofs.Taken.{drop-past-list, drop-after-read, drop-not-held, drop-none-held, drop-held}
 use borrow.Author.Needs.{needs}
 use Rattle.dock.proofs.steps.drop_frame.Statement.{statement}
 use Rattle.dock.proofs.steps.drop_frame.Tie as tie
@@ -9,7 +10,7 @@ break-off-requires : tie.Need-break-off-requires
 break-off-requires c κs = search needs
 
 returns : tie.Need-returns
-returns c = rw (c .break-off .ensures) (drop-past-list _ _ _ (c .before .before .before .before .pre .1) (c .before .if1 .taken))
+returns c = rw (c .break-off .ensures) (drop-past-list _ _ (c .before .before .before .before .pre .1) _ (c .before .if1 .taken))
 
 break-off-requires-2 : tie.Need-break-off-requires-2
 break-off-requires-2 c κs = search needs
@@ -18,7 +19,7 @@ returns-2 : tie.Need-returns-2
 returns-2 c =
     let start = c .before .before .before .before .before in
     rw (c .break-off2 .ensures)
-    (drop-after-read (start .args .dock) _ _ (start .pre .1) (c .before .before .if1 .left) (c .before .if2 .taken))
+    (drop-after-read (start .args .dock) _ (start .pre .1) _ (c .before .before .if1 .left) (c .before .if2 .taken))
 
 cast-at : tie.Need-cast-at
 cast-at c = search needs
@@ -30,13 +31,13 @@ returns-3 : tie.Need-returns-3
 returns-3 c =
     let s = c .before .before .before in
     let start = s .before .before .before in
-    drop-not-held (start .args .dock) _ _ (start .pre .1) (s .if1 .left) (c .before .before .if2 .left) (c .if3 .taken)
+    drop-not-held (start .args .dock) _ (start .pre .1) _ (s .if1 .left) (c .before .before .if2 .left) (c .if3 .taken)
 
 returns-4 : tie.Need-returns-4
 returns-4 c =
     let s = c .before .before .before .before in
     let start = s .before .before .before .before in
-    drop-none-held (start .args .dock) _ _ (start .pre .1) (s .before .if1 .left) (s .if2 .left) (c .before .before .if3 .left) (c .if4 .taken)
+    drop-none-held (start .args .dock) _ (start .pre .1) _ (s .before .if1 .left) (s .if2 .left) (c .before .before .if3 .left) (c .if4 .taken)
 
 slice-write-memory : tie.Need-slice-write-memory
 slice-write-memory c = search needs
@@ -51,7 +52,7 @@ returns-5 : tie.Need-returns-5
 returns-5 c =
     let s = c .before .before .before .before .before in
     let start = s .before .before .before .before in
-    drop-held (start .args .dock) _ _ (start .pre .1) (s .before .if1 .left) (s .if2 .left) (c .before .before .before .if3 .left) (start .pre .0)
+    drop-held (start .args .dock) _ (start .pre .1) _ (s .before .if1 .left) (s .if2 .left) (c .before .before .before .if3 .left) (omega arith)
 
 pub drop-frame-spec : {M : Type 1} → statement M
 drop-frame-spec =

@@ -6,8 +6,9 @@ use mathlib.Core.Bool.{true}
 use Prim.Native.Nat.{ℕ, _<_}
 use lib.ListN.{length, getD}
 use denote.Ref.{now}
-use Rattle.dock.specs.Parts.{takesBuffer}
-use Rattle.dock.proofs.ReadStep.{takes-not-held, takes-counted, read-past-list, read-card-busy, read-no-buffer, read-buffer}
+use Rattle.dock.specs.Drive.{takesBuffer}
+use Rattle.dock.proofs.ReadStep.{takes-not-held, takes-counted}
+use Rattle.dock.proofs.Taken.{read-past-list, read-card-busy, read-no-buffer, read-buffer}
 use borrow.Author.Needs.{needs}
 use Rattle.dock.proofs.steps.read_frame.Statement.{statement}
 use Rattle.dock.proofs.steps.read_frame.Tie as tie
@@ -16,7 +17,7 @@ break-off-requires : tie.Need-break-off-requires
 break-off-requires c κs = search needs
 
 returns : tie.Need-returns
-returns c = rw (c .break-off .ensures) (read-past-list _ _ _ (c .before .before .before .before .pre .1) (c .before .if1 .taken))
+returns c = rw (c .break-off .ensures) (read-past-list _ _ (c .before .before .before .before .pre .1) _ (c .before .if1 .taken))
 
 cast-at : tie.Need-cast-at
 cast-at c = search needs
@@ -38,20 +39,11 @@ returns-2 c =
     let s = c .before .before .before in
     let start = s .before .before .before .before .before in
     rw (c .break-off2 .ensures)
-    (read-card-busy (start .args .dock) _ _ (start .pre .1) (s .before .before .if1 .left) (s .card-in .result) (s .card-in .ensures)
+    (read-card-busy (start .args .dock) _ (start .pre .1) _ (s .before .before .if1 .left) (s .card-in .ensures)
     (c .before .if2 .taken))
-
--- there is a flag for each card
-flags : (c : tie.Start) → length (c .args .dock .busy) ≡ 32
-flags c = search needs
 
 element-write-d : tie.Need-element-write-d
 element-write-d c = search needs
-
-card-known :
-    (c : tie.Else2)
-    → c .before .before .card-in .result < length (c .before .before .before .before .before .before .before .args .dock .busy)
-card-known c = omega (arith, flags (c .before .before .before .before .before .before .before), element-write-d c)
 
 takes-buffer-requires : tie.Need-takes-buffer-requires
 takes-buffer-requires c κs = search needs
@@ -86,15 +78,14 @@ returns-3 : tie.Need-returns-3
 returns-3 c =
     let s = c .before .before .before .before in
     let pre = start-of c .pre in
-    read-buffer (start-of c .args .dock) _ _ (pre .1) (s .before .before .if1 .left) (s .card-in .result) (s .card-in .ensures)
-    (card-known (c .before .before)) (c .before .before .if2 .left) (takes c) (pre .0)
+    read-buffer (start-of c .args .dock) _ (pre .1) _ (s .before .before .if1 .left) (s .card-in .ensures) (c .before .before .if2 .left) (takes c)
 
 returns-4 : tie.Need-returns-4
 returns-4 c =
     let s = c .before .before .before .before in
     let start = s .before .before .before .before .before in
-    read-no-buffer (start .args .dock) _ _ (start .pre .1) (s .before .before .if1 .left) (s .card-in .result) (s .card-in .ensures)
-    (card-known (c .before .before)) (c .before .before .if2 .left) (sym (c .before .takes-buffer .ensures) ∙ c .if3 .left)
+    read-no-buffer (start .args .dock) _ (start .pre .1) _ (s .before .before .if1 .left) (s .card-in .ensures) (c .before .before .if2 .left)
+    (sym (c .before .takes-buffer .ensures) ∙ c .if3 .left)
 
 pub read-frame-spec : {M : Type 1} → statement M
 read-frame-spec =

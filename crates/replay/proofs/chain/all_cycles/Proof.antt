@@ -23,8 +23,8 @@ slice-aggregate-link-2 c = search needs
 
 link-requires : tie.Need-link-requires
 link-requires c κs =
-    let s = c .before .before .before .before .before .pre in
-    (small-plan _ (s .0) (s .1) (omega (arith, c .before .before .if1 .left)), unlinked)
+    let pre = c .before .before .before .before .before .before .pre in
+    (small-plan _ (pre .0) (pre .1) (omega (arith, c .before .before .if1 .left)), unlinked)
 
 slice-aggregate-linked-to : tie.Need-slice-aggregate-linked-to
 slice-aggregate-linked-to c = search needs
@@ -34,8 +34,9 @@ slice-aggregate-linked-to-2 c = search needs
 
 linked-to-requires : tie.Need-linked-to-requires
 linked-to-requires c κs =
-    let s = c .before .before .before .before .before .before .before .before .before .before .before .pre in
-    (omega (arith, c .before .before .before .before .before .before .before .before .if1 .left), small-plan _ (s .0) (s .1) (omega (arith, c .before .before .before .before .before .before .before .before .if1 .left)), c .before .before .before .before .before .link .ensures)
+    let pre = c .before .before .before .before .before .before .before .before .before .before .before .before .pre in
+    let low = c .before .before .before .before .before .before .before .before .if1 .left in
+    (omega (arith, low), small-plan _ (pre .0) (pre .1) (omega (arith, low)), c .before .before .before .before .before .link .ensures)
 
 same-length-2 : tie.Need-same-length-2
 same-length-2 c = search needs

@@ -11,10 +11,11 @@ use Rattle.replay.proofs.chain.linked_to.Statement.{statement}
 use Rattle.replay.proofs.chain.linked_to.Tie as tie
 
 abbrev Inv-loop : tie.InvT-loop
-Inv-loop plan last first after memory₀ q₀ t₀ memory q t = (t ≤ last) × (length memory ≡ length memory₀) × CyclesMade plan 0 t q₀ memory₀ q memory
+Inv-loop plan first after memory₀ end q₀ t₀ memory q t =
+    (t ≤ end) × (length memory ≡ length memory₀) × CyclesMade plan 0 t q₀ memory₀ q memory
 
 abbrev μ-loop : tie.MeasureT-loop
-μ-loop plan last first after memory₀ q₀ t₀ memory q t = last - t
+μ-loop plan first after memory₀ end q₀ t₀ memory q t = end - t
 
 loop-holds : tie.Need-loop-holds Inv-loop μ-loop
 loop-holds c = (omega arith, refl, cycles-none)
@@ -34,8 +35,11 @@ loop-less c = search needs
 loop-again : tie.Need-loop-again Inv-loop μ-loop
 loop-again c =
     let low = c .before .before .before .before .before .before .before .before .loop-test .taken in
-    let e = cycle-ends (omega arith) (omega (arith, low, c .before .before .before .before .before .before .before .before .before .before .before .before .before .before .pre .0)) (c .before .before .before .before .before .before .reads .ensures) (c .before .before .track .ensures) in
-    (omega (arith, low), search needs, cycles-next (c .before .before .before .before .before .before .before .before .before .loop .inv .2) e)
+    let loop = c .before .before .before .before .before .before .before .before .before in
+    let few = loop .before .before .before .before .before .pre .0 in
+    let reads = c .before .before .before .before .before .before .reads .ensures in
+    let ends = cycle-ends (omega arith) (omega (arith, low, few)) reads (c .before .before .track .ensures) in
+    (omega (arith, low), search needs, cycles-next (loop .loop .inv .2) ends)
 
 same-length : tie.Need-same-length Inv-loop μ-loop
 same-length c = c .before .loop .inv .1
@@ -43,7 +47,7 @@ same-length c = c .before .loop .inv .1
 returns : tie.Need-returns Inv-loop μ-loop
 returns c =
     let l = c .before .loop in
-    let e : l .t ≡ c .before .before .before .before .before .before .args .last = omega (arith, l .inv .0) in
+    let e : l .t ≡ c .before .before .before .before .before .before .args .last .0 = omega (arith, l .inv .0) in
     rw e at (l .inv .2)
 
 pub linked-to-spec : {M : Type 1} → statement M

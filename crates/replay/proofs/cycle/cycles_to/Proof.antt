@@ -11,10 +11,11 @@ use Rattle.replay.proofs.cycle.cycles_to.Statement.{statement}
 use Rattle.replay.proofs.cycle.cycles_to.Tie as tie
 
 abbrev Inv-loop : tie.InvT-loop
-Inv-loop plan last memory₀ next₀ q₀ t₀ memory next q t = (t ≤ last) × (length memory ≡ length memory₀) × Next plan t next × CyclesMade plan 0 t q₀ memory₀ q memory
+Inv-loop plan memory₀ end next₀ q₀ t₀ memory next q t =
+    (t ≤ end) × (length memory ≡ length memory₀) × Next plan t (next .0) × CyclesMade plan 0 t q₀ memory₀ q memory
 
 abbrev μ-loop : tie.MeasureT-loop
-μ-loop plan last memory₀ next₀ q₀ t₀ memory next q t = last - t
+μ-loop plan memory₀ end next₀ q₀ t₀ memory next q t = end - t
 
 next-cycle-requires : tie.Need-next-cycle-requires Inv-loop μ-loop
 next-cycle-requires c κs = search needs
@@ -49,7 +50,7 @@ same-length c = c .before .loop .inv .1
 returns : tie.Need-returns Inv-loop μ-loop
 returns c =
     let l = c .before .loop in
-    let e : l .t ≡ c .before .before .before .before .before .args .last = omega (arith, l .inv .0) in
+    let e : l .t ≡ c .before .before .before .before .before .args .last .0 = omega (arith, l .inv .0) in
     rw e at (l .inv .3)
 
 pub cycles-to-spec : {M : Type 1} → statement M

@@ -9,7 +9,7 @@ next-cycle-requires : tie.Need-next-cycle-requires
 next-cycle-requires c κs = search needs
 
 returns : tie.Need-returns
-returns c = next-kept (c .if1 .taken) (c .before .before .pre)
+returns c = next-kept (c .if1 .taken) (c .before .before .before .before .pre)
 
 returns-2 : tie.Need-returns-2
 returns-2 c = search needs

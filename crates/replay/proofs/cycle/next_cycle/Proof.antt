@@ -11,7 +11,7 @@ use Rattle.replay.proofs.cycle.next_cycle.Statement.{statement}
 use Rattle.replay.proofs.cycle.next_cycle.Tie as tie
 
 abbrev Inv-loop : tie.InvT-loop
-Inv-loop plan t next₀ i₀ next i = (i ≤ length plan) × NoneBetween plan i t next × (t < lastCycle → t < next)
+Inv-loop plan t next₀ i₀ next i = (i ≤ length plan) × NoneBetween plan i (t .0) (next .0) × (t .0 < lastCycle → t .0 < next .0)
 
 abbrev μ-loop : tie.MeasureT-loop
 μ-loop plan t next₀ i₀ next i = length plan - i
@@ -19,11 +19,11 @@ abbrev μ-loop : tie.MeasureT-loop
 loop-holds : tie.Need-loop-holds Inv-loop μ-loop
 loop-holds c = (omega arith, λ i l. absurd (omega arith), λ l. l)
 
-mul-sooner : tie.Need-mul-sooner Inv-loop μ-loop
-mul-sooner c = search needs
+mul-c : tie.Need-mul-c Inv-loop μ-loop
+mul-c c = search needs
 
-shared-slice-read-sooner : tie.Need-shared-slice-read-sooner Inv-loop μ-loop
-shared-slice-read-sooner c = search needs
+shared-slice-read-c : tie.Need-shared-slice-read-c Inv-loop μ-loop
+shared-slice-read-c c = search needs
 
 sooner-requires : tie.Need-sooner-requires Inv-loop μ-loop
 sooner-requires c κs = search needs
@@ -36,8 +36,10 @@ loop-less c = search needs
 
 loop-again : tie.Need-loop-again Inv-loop μ-loop
 loop-again c =
-    let l = c .before .before .before .loop in
-    (omega arith, none-between-next (c .before .before .before .before .before .args .plan .now) _ _ _ _ (l .inv .1) (c .sooner .ensures .0) (c .sooner .ensures .1), λ k. c .sooner .ensures .2 (l .inv .2 k))
+    let inv = c .before .before .before .loop .inv in
+    let plan = c .before .before .before .before .before .args .plan .now in
+    let sooner = c .sooner .ensures in
+    (omega arith, none-between-next plan _ _ _ _ (inv .1) (sooner .0) (sooner .1), λ k. sooner .2 (inv .2 k))
 
 returns : tie.Need-returns Inv-loop μ-loop
 returns c =
@@ -52,8 +54,8 @@ next-cycle-spec =
     Inv-loop
     μ-loop
     loop-holds
-    mul-sooner
-    shared-slice-read-sooner
+    mul-c
+    shared-slice-read-c
     sooner-requires
     add-i
     loop-less

@@ -14,11 +14,12 @@ same-length c = search needs
 
 returns : tie.Need-returns
 returns c =
-    let s = c .before .before .before .before .before .before .before in
-    cycles.cycle-ends (s .pre .0) (omega (arith, s .fits .cycle)) (cycles.reads-of-none (s .pre .0) (s .pre .2) (omega (arith, c .before .before .before .before .if1 .taken))) (c .before .before .track .ensures)
+    let pre = c .before .before .before .before .before .before .before .before .before .pre in
+    let none = cycles.reads-of-none (pre .0) (pre .2) (omega (arith, c .before .before .before .before .if1 .taken)) in
+    cycles.cycle-ends (pre .0) (omega arith) none (c .before .before .track .ensures)
 
 reads-requires : tie.Need-reads-requires
-reads-requires c κs = let s = c .before .before .before .before in (s .pre .0, s .pre .1)
+reads-requires c κs = let pre = c .before .before .before .before .before .before .pre in (pre .0, pre .1)
 
 track-requires-2 : tie.Need-track-requires-2
 track-requires-2 c κs = search needs
@@ -28,8 +29,8 @@ same-length-2 c = search needs
 
 returns-2 : tie.Need-returns-2
 returns-2 c =
-    let s = c .before .before .before .before .before .before .before .before .before .before .before in
-    cycles.cycle-ends (s .pre .0) (omega (arith, s .fits .cycle)) (c .before .before .before .before .before .before .reads .ensures) (c .before .before .track2 .ensures)
+    let pre = c .before .before .before .before .before .before .before .before .before .before .before .before .before .pre in
+    cycles.cycle-ends (pre .0) (omega arith) (c .before .before .before .before .before .before .reads .ensures) (c .before .before .track2 .ensures)
 
 pub one-cycle-spec : {M : Type 1} → statement M
 one-cycle-spec =

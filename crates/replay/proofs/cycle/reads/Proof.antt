@@ -11,10 +11,10 @@ use Rattle.replay.proofs.cycle.reads.Statement.{statement}
 use Rattle.replay.proofs.cycle.reads.Tie as tie
 
 abbrev Inv-loop : tie.InvT-loop
-Inv-loop plan cycle memory₀ q₀ i₀ memory q i = (i ≤ length plan) × (length memory ≡ length memory₀) × ReadsMade plan cycle i q₀ memory₀ q memory
+Inv-loop plan memory₀ c q₀ i₀ memory q i = (i ≤ length plan) × (length memory ≡ length memory₀) × ReadsMade plan c i q₀ memory₀ q memory
 
 abbrev μ-loop : tie.MeasureT-loop
-μ-loop plan cycle memory₀ q₀ i₀ memory q i = length plan - i
+μ-loop plan memory₀ c q₀ i₀ memory q i = length plan - i
 
 loop-holds : tie.Need-loop-holds Inv-loop μ-loop
 loop-holds c = (omega arith, refl, cycles.reads-none)
@@ -39,10 +39,10 @@ loop-less c = search needs
 
 loop-again : tie.Need-loop-again Inv-loop μ-loop
 loop-again c =
-    let t = c .before .before .track in
-    let l = c .before .before .before .before .before .before .before .before .loop in
-    let s = c .before .before .before .before .before .before .before .before .before .before .before in
-    (omega arith, search needs, cycles.reads-next (l .inv .2) (omega (arith, s .fits .cycle)) (omega (arith, c .before .before .before .before .before .if1 .taken)) (c .before .before .before .before .position .ensures) (t .ensures))
+    let inv = c .before .before .before .before .before .before .before .before .loop .inv in
+    let same = c .before .before .before .before .before .if1 .taken in
+    let position = c .before .before .before .before .position .ensures in
+    (omega arith, search needs, cycles.reads-next (inv .2) (omega arith) (omega (arith, same)) position (c .before .before .track .ensures))
 
 loop-less-2 : tie.Need-loop-less-2 Inv-loop μ-loop
 loop-less-2 c = search needs

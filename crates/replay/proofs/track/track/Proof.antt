@@ -22,7 +22,9 @@ same-length : tie.Need-same-length
 same-length c = search needs
 
 returns : tie.Need-returns
-returns c = noted-tracked (c .before .before .before .before .before .before .before .before .before .before .drive .ensures) refl (c .before .before .needed-after .ensures) (c .before .held-at-end .ensures) (c .larger .ensures)
+returns c =
+    let drive = c .before .before .before .before .before .before .before .before .before .before .drive in
+    noted-tracked (drive .ensures .1 .1) refl (c .before .before .needed-after .ensures) (c .before .held-at-end .ensures) (c .larger .ensures)
 
 pub track-spec : {M : Type 1} → statement M
 track-spec =
