@@ -10,25 +10,6 @@ use Rattle.header.specs.declared.Header.{Header}
 use Rattle.header.specs.declared.Answer.{Answer}
 use Rattle.header.specs.declared.Answer.the-variants.{Accepted, Refused}
 
--- The numbers of an answer: the refusal's, 0 for none, and what stands in the header, all 0 beside a refusal.
-pub record Numbers : Type 0 where
-  pub refusal : ℕ
-  pub edition : ℕ
-  pub mode : ℕ
-  pub cards : ℕ
-  pub pool : ℕ
-  pub frames : ℕ
-
-abbrev pub acceptedAs : Header → Numbers
-acceptedAs h = record { refusal = 0; edition = h .edition; mode = h .mode; cards = h .cards; pool = h .pool; frames = h .frames }
-
-abbrev pub refusedBy : ℕ → Numbers
-refusedBy k = record { refusal = k; edition = 0; mode = 0; cards = 0; pool = 0; frames = 0 }
-
-abbrev pub numbersOf : Answer → Numbers
-numbersOf (Accepted h) = acceptedAs h
-numbersOf (Refused k) = refusedBy k
-
 -- "The header has 14 digits", and an end byte.
 abbrev pub headerDigits : ℕ
 headerDigits = 14

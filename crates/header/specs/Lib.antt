@@ -1,2 +1,3 @@
 pub mod Limits
 pub mod Heading
+pub mod Numbers

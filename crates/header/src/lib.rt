@@ -1,7 +1,8 @@
 // The header of a ticket: refusals 1 to 6.
 ghost use mathlib.Core.Path.{_≡_};
 ghost use Rattle.text.specs.Text.{digitValues};
-ghost use Rattle.header.specs.Heading.{judge, heading, numbersOf};
+ghost use Rattle.header.specs.Heading.{judge, heading};
+ghost use Rattle.header.specs.Numbers.{numbersOf};
 
 mod fields;
 pub mod limits;

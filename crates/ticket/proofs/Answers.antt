@@ -12,7 +12,8 @@ use Rattle.schedule.specs.Count.{tabulate}
 use Rattle.schedule.specs.Schedule.{cardOf}
 use Rattle.schedule.proofs.Bits.{by-cases}
 use Rattle.schedule.proofs.Lists.{from-place, drop-replicate, length-tabulate}
-use Rattle.header.specs.Heading.{headerBytes, heading, numbersOf}
+use Rattle.header.specs.Heading.{headerBytes, heading}
+use Rattle.header.specs.Numbers.{numbersOf}
 use Rattle.header.specs.Limits.{maxCards, maxFrames}
 use Rattle.ticket.specs.Grounds.{Fits}
 use Rattle.ticket.specs.Part.{place}

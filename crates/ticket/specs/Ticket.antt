@@ -10,7 +10,8 @@ use lib.ListN.{length, take, drop, replicate}
 use Rattle.schedule.specs.Count.{howMany, tabulate}
 use Rattle.schedule.specs.Schedule.{cardOf}
 use Rattle.text.specs.Text.{number, isLine}
-use Rattle.header.specs.Heading.{headerBytes, heading, Numbers, acceptedAs, refusedBy}
+use Rattle.header.specs.Heading.{headerBytes, heading}
+use Rattle.header.specs.Numbers.{Numbers, acceptedAs, refusedBy}
 use Rattle.header.specs.Limits.{maxCards, maxFrames}
 use Rattle.header.specs.declared.Header.{Header}
 use Rattle.header.specs.declared.Answer.{Answer}

@@ -1,6 +1,7 @@
 // The ticket's text: what it says, or the number of the one refusal that it gets. Everything that takes a ticket goes through here.
 ghost use mathlib.Core.Path.{_≡_};
-ghost use Rattle.header.specs.Heading.{heading, numbersOf};
+ghost use Rattle.header.specs.Heading.{heading};
+ghost use Rattle.header.specs.Numbers.{numbersOf};
 ghost use Rattle.ticket.specs.Part.{place};
 ghost use Rattle.ticket.specs.Ticket.{refused, parse, ticketOf, numbersIn, refusalOf, lineRefusalOf, lineStart, lineOf, linePlace, countsOf};
 

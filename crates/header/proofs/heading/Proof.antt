@@ -2,7 +2,7 @@
 -- Assumes nothing.
 use mathlib.Core.Path.{ap}
 use borrow.Author.Needs.{needs}
-use Rattle.header.specs.Heading.{numbersOf}
+use Rattle.header.specs.Numbers.{numbersOf}
 use Rattle.header.proofs.heading.Statement.{statement}
 use Rattle.header.proofs.heading.Tie as tie
 
