@@ -16,7 +16,8 @@ use Rattle.schedule.proofs.Main.{save-correct, read-correct, save-demand, read-
 use Rattle.header.specs.declared.Header.{Header}
 use Rattle.ticket.specs.Ticket.{accepted, parse}
 use Rattle.ticket.proofs.Main.{accepted-fits}
-use Rattle.planner.specs.Plan.{refusalIn, lengthIn, planFor, answerTo, bufferAfter, Answered}
+use Rattle.planner.specs.Numbers.{numbersOf}
+use Rattle.planner.specs.Plan.{planFor, answerTo, bufferAfter, Answered}
 use Rattle.planner.specs.Demand3.{Demand3}
 use Rattle.planner.specs.declared.Answer.{Answer}
 use Rattle.planner.proofs.Plans.{plan-read, plan-save}
@@ -33,7 +34,7 @@ module _ (h : Header) (cards before after : List ℕ) (r : Answer) (a : Answered
       (λ e. let b : after ≡ before = rw e at (a .buffer) in absurd (omega (arith, ltb-true (length before) (length cards) e, ap length b)))
       (λ e. e)
 
-  answers-T : (refusalIn r ≡ 0) × (lengthIn r ≡ plan .T)
+  answers-T : (numbersOf r .refusal ≡ 0) × (numbersOf r .cycles .0 ≡ plan .T)
   unfolding answerTo
   answers-T = rw (a .answer, has-room) (refl, refl)
 
@@ -44,11 +45,11 @@ module _ (h : Header) (cards before after : List ℕ) (r : Answer) (a : Answered
   -- what is true of the plan is true of the buffer's front and of the T answered
   pub so-of-call :
       (P : List ℕ → ℕ → Type 0) → length (plan .cycles) ≡ length cards → P (plan .cycles) (plan .T)
-      → (refusalIn r ≡ 0) × P (take (length cards) after) (lengthIn r)
+      → (numbersOf r .refusal ≡ 0) × P (take (length cards) after) (numbersOf r .cycles .0)
   so-of-call P e p = (answers-T .0, rw (answers-T .1, holds-plan e) p)
 
 module _ (t before after : List ℕ) (r : Answer) (a : Answered (parse t) before after r) where
-  pub demand-3 : Demand3 t (refusalIn r) (lengthIn r) after
+  pub demand-3 : Demand3 t (numbersOf r .refusal) (numbersOf r .cycles .0) after
   demand-3 =
       record {
         read-plan = λ h cards e mode room.
@@ -66,5 +67,7 @@ module _ (t before after : List ℕ) (r : Answer) (a : Answered (parse t) before
       }
 
   -- the whole contract of `plan`
-  pub contract : (r ≡ answerTo (parse t) (length before)) × ((after ≡ bufferAfter (parse t) before) × Demand3 t (refusalIn r) (lengthIn r) after)
-  contract = (a .answer, (a .buffer, demand-3))
+  pub contract : (r ≡ answerTo (parse t) (length before))
+      × ((after ≡ bufferAfter (parse t) before)
+      × ((numbersOf r ≡ numbersOf (answerTo (parse t) (length before))) × Demand3 t (numbersOf r .refusal) (numbersOf r .cycles .0) after))
+  contract = (a .answer, (a .buffer, (ap numbersOf (a .answer), demand-3)))

@@ -10,14 +10,15 @@ use Rattle.schedule.specs.Cases.{Answer, Case, _gives_, plan, readPlan, savePla
 use Rattle.header.specs.Limits.{read, save, saveAndKeep}
 use Rattle.ticket.specs.Ticket.{Parsed, parse, zeros}
 use Rattle.ticket.specs.Print.{ticketFor}
-use Rattle.planner.specs.Plan.{refusalIn, lengthIn, answerTo, bufferAfter}
+use Rattle.planner.specs.Plan.{answerTo, bufferAfter}
+use Rattle.planner.specs.Numbers.{Numbers, numbersOf}
 
 -- the buffer and T after a call; a refusal is none of the table's answers
+abbrev told : Numbers → List ℕ → Answer
+told n buffer = cond (eqb (n .refusal) 0) (plan buffer (n .cycles .0)) (most (n .refusal))
+
 abbrev afterCall : Parsed → List ℕ → Answer
-afterCall p buffer =
-    cond (eqb (refusalIn (answerTo p (length buffer))) 0)
-    (plan (bufferAfter p buffer) (lengthIn (answerTo p (length buffer))))
-    (most (refusalIn (answerTo p (length buffer))))
+afterCall p buffer = told (numbersOf (answerTo p (length buffer))) (bufferAfter p buffer)
 
 abbrev ask : ℕ → ℕ → List ℕ → Answer
 ask mode m cards = afterCall (parse (ticketFor mode m cards)) (zeros (length cards))

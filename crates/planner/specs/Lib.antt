@@ -1,4 +1,5 @@
 pub mod Plan
+pub mod Numbers
 pub mod Demand3
 pub mod Pass
 pub mod Cases

@@ -14,15 +14,6 @@ use Rattle.ticket.specs.Ticket.{Parsed, accepted, refused}
 use Rattle.planner.specs.declared.Answer.{Answer}
 use Rattle.planner.specs.declared.Answer.the-variants.{Planned, Refused}
 
--- The numbers of an answer: the refusal, 0 for none, and T. "Beside a refusal's number, other numbers of the answer are 0".
-abbrev pub refusalIn : Answer → ℕ
-refusalIn (Planned T) = 0
-refusalIn (Refused k) = k
-
-abbrev pub lengthIn : Answer → ℕ
-lengthIn (Planned T) = T .0
-lengthIn (Refused k) = 0
-
 -- "Modes: 00 read; 01 save; 02 save and keep."
 abbrev pub planFor : ℕ → ℕ → List ℕ → Plan
 planFor mode m cards = cond (eqb mode read) (lazyPrefetching m cards) (cond (eqb mode save) (greedyWriting m cards) (saveAndKeep m cards))

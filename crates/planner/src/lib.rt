@@ -3,7 +3,8 @@ ghost use mathlib.Core.Path.{_≡_};
 ghost use lib.ListN.{length, take};
 ghost use Rattle.ticket.specs.Ticket.{accepted, parse};
 ghost use Rattle.ticket.specs.Grounds.{Fits};
-ghost use Rattle.planner.specs.Plan.{refusalIn, lengthIn, answerTo, bufferAfter, Answered};
+ghost use Rattle.planner.specs.Plan.{answerTo, bufferAfter, Answered};
+ghost use Rattle.planner.specs.Numbers.{numbersOf};
 ghost use Rattle.planner.specs.Demand3.{Demand3};
 
 mod modes;
@@ -35,7 +36,8 @@ fn plan_list(h: Header, card: &[u8], out: &mut [u16]) -> Answer
 pub fn plan(ticket: &[u8], out: &mut [u16]) -> Answer
     ensures answer { λ r. ⌜ r ≡ answerTo (parse (now (ticket .entry))) (length (now (out .entry))) ⌝ }
     ensures buffer { λ r. ⌜ now (out .exit) ≡ bufferAfter (parse (now (ticket .entry))) (now (out .entry)) ⌝ }
-    ensures demand { λ r. ⌜ Demand3 (now (ticket .entry)) (refusalIn r) (lengthIn r) (now (out .exit)) ⌝ }
+    ensures numbers { λ r. ⌜ numbersOf r ≡ numbersOf (answerTo (parse (now (ticket .entry))) (length (now (out .entry)))) ⌝ }
+    ensures demand { λ r. ⌜ Demand3 (now (ticket .entry)) (numbersOf r .refusal) (numbersOf r .cycles .0) (now (out .exit)) ⌝ }
 {
     let read = ticket::parse(ticket);
     let answer = read.answer;
