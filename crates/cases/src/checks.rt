@@ -66,7 +66,7 @@ fn cycle(b: u8) -> u16 {
     (b - b'0') as u16
 }
 
-fn read_plan(text: &[u8], plan: &mut [u16]) {
+pub(crate) fn read_plan(text: &[u8], plan: &mut [u16]) {
     let n = text.len();
     let mut i: usize = 0;
     while i < n {

@@ -1,6 +1,7 @@
 // Runs document 01's cases and boundaries, and every refusal through every call that gives it, and prints inputs and results.
 mod checks;
 mod docks;
+mod library;
 mod long_lists;
 mod output;
 mod plans;
@@ -25,4 +26,5 @@ fn main() {
     docks::all();
     savers::all();
     long_lists::all();
+    library::all();
 }

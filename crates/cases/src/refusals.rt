@@ -57,14 +57,19 @@ fn dock_numbers(d: dock::Dock) {
     output::number(d.ended as u64, 3);
 }
 
+// The numbers of check and run_plan, between those of plan and start.
+fn numbers(t: &[u8], plan: &[u16], planned: planner::Answer, started: u8) {
+    output::number(number_of_plan(planned) as u64, 6);
+    output::number(number_of_check(checker::check(t, plan)) as u64, 6);
+    output::number(number_of_run(replay::run_plan(t, plan)) as u64, 6);
+    output::number(started as u64, 6);
+}
+
 // The calls that use a ticket: plan, check, run_plan, start; the buffer, the memory and the dock afterwards.
 fn users(t: &[u8], plan: &[u16], buffer: &mut [u16], memory: &mut [u8]) {
     let planned = planner::plan(t, buffer);
     let started = dock::start(t, memory);
-    output::number(number_of_plan(planned) as u64, 6);
-    output::number(number_of_check(checker::check(t, plan)) as u64, 6);
-    output::number(number_of_run(replay::run_plan(t, plan)) as u64, 6);
-    output::number(started.refusal as u64, 6);
+    numbers(t, plan, planned, started.refusal);
     output::list(buffer, 3, 3);
     output::small_list(memory, 3, 3);
     dock_numbers(started.dock);

@@ -28,7 +28,7 @@ fn entries(written: [Position; 32]) {
 }
 
 // The refusal, the cycle made, the record, and what was written.
-fn answer(a: Answer) {
+pub(crate) fn answer(a: Answer) {
     let cycle = a.cycle;
     let written = a.written;
     let s = a.saver;

@@ -2,6 +2,7 @@
 // space in it goes with the ticket: a plan, steps of the dock, or the layout of a long list.
 use crate::checks;
 use crate::docks;
+use crate::library;
 use crate::long_lists;
 use crate::output;
 use crate::plans;
@@ -23,6 +24,7 @@ pub(crate) enum Show {
     Checked,
     Driven,
     LongList,
+    Called,
 }
 
 fn show_ticket(how: Show, t: &[u8], more: &[u8]) {
@@ -38,6 +40,7 @@ fn show_ticket(how: Show, t: &[u8], more: &[u8]) {
         Show::Checked => checks::checked(t, more),
         Show::Driven => docks::driven(t, more),
         Show::LongList => long_lists::planned(t, more),
+        Show::Called => library::called(t, more),
     }
 }
 

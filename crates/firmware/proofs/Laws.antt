@@ -4,19 +4,21 @@ use Prim.Native.Nat.{ℕ}
 use mathlib.Core.Path.{_≡_, refl, ap, _∙_}
 use mathlib.Core.Bool.{Bool}
 use mathlib.Core.List.{List}
-use lib.Dec.{eqb}
 use lib.ListN.{length}
 use Rattle.schedule.specs.declared.Cycle.{Cycle}
 use Rattle.ticket.specs.Ticket.{parse, refusalOf, countsOf}
-use Rattle.planner.specs.Plan as planning
+use Rattle.planner.specs.Plan.{answerTo, bufferAfter}
+use Rattle.planner.specs.Numbers.{numbersOf}
 use Rattle.planner.specs.Demand3.{Demand3}
-use Rattle.planner.specs.declared.Answer.{Answer as PlannerAnswer}
-use Rattle.checker.specs.Check.{isValid, checkOf}
+use Rattle.planner.specs.declared.Answer.{Answer}
+use Rattle.checker.specs.Check.{checkOf}
+use Rattle.checker.specs.Numbers.{numbersOf as numbersOfCheck}
 use Rattle.checker.specs.Exact.{Exact}
 use Rattle.checker.specs.declared.Verdict.{Verdict}
-use Rattle.checker.specs.declared.Verdict.the-variants.{Valid, NoCycle, SharedCard, Overfull, Refused}
-use Rattle.firmware.specs.Answers.{countsAnswer, planAnswer, valid, verdictNumber, checkAnswer, completeIn, neededIn, runNumbers}
+use Rattle.replay.specs.Numbers.{completeIn, neededIn, numbersOf as numbersOfRun}
 use Rattle.replay.specs.declared.Run.{Run}
+use Rattle.replay.specs.declared.Answer.the-variants.{Ran}
+use Rattle.firmware.specs.Answers.{countsAnswer, planAnswer, checkAnswer, runAnswer}
 use Rattle.firmware.specs.declared.plans.PlanAnswer.{PlanAnswer}
 use Rattle.firmware.specs.declared.checks.CheckAnswer.{CheckAnswer}
 
@@ -27,28 +29,22 @@ pub counted :
 counted t number frames e f = rw (e, f) refl
 
 -- the contract of `dockplan_plan` from that of `planner::plan`
-module _ (t before after : List ℕ) (a : PlannerAnswer) (r : PlanAnswer) (e : r ≡ planAnswer a) where
+module _ (t before after : List ℕ) (a : Answer) (r : PlanAnswer) (e : r ≡ planAnswer (numbersOf a)) where
   pub planned :
-      (a ≡ planning.answerTo (parse t) (length before))
-      × ((after ≡ planning.bufferAfter (parse t) before) × Demand3 t (planning.refusalIn a) (planning.lengthIn a) after)
-      → (r ≡ planAnswer (planning.answerTo (parse t) (length before)))
-      × ((after ≡ planning.bufferAfter (parse t) before) × Demand3 t (r .refusal) (r .cycles .0) after)
-  planned p = (e ∙ ap planAnswer (p .0), (p .1 .0, rw e (p .1 .1)))
-
--- of the verdicts' numbers just one says valid
-number-valid : (v : Verdict) → eqb (verdictNumber v) valid ≡ isValid v
-number-valid (Valid T peak) = refl
-number-valid (NoCycle p) = refl
-number-valid (SharedCard p) = refl
-number-valid (Overfull p) = refl
-number-valid (Refused k) = refl
+      (a ≡ answerTo (parse t) (length before))
+      × ((after ≡ bufferAfter (parse t) before)
+      × ((numbersOf a ≡ numbersOf (answerTo (parse t) (length before))) × Demand3 t (numbersOf a .refusal) (numbersOf a .cycles .0) after))
+      → (r ≡ planAnswer (numbersOf (answerTo (parse t) (length before))))
+      × ((after ≡ bufferAfter (parse t) before) × Demand3 t (r .refusal) (r .cycles .0) after)
+  planned p = (e ∙ ap planAnswer (p .1 .1 .0), (p .1 .0, rw e (p .1 .1 .1)))
 
 -- the contract of `dockplan_check` from that of `checker::check`
-module _ (t cycles : List ℕ) (v : Verdict) (r : CheckAnswer) (e : r ≡ checkAnswer v) where
+module _ (t cycles : List ℕ) (v : Verdict) (r : CheckAnswer) (e : r ≡ checkAnswer (numbersOfCheck v)) where
   pub checked :
-      (v ≡ checkOf (parse t) cycles) × Exact t cycles (isValid v)
-      → (r ≡ checkAnswer (checkOf (parse t) cycles)) × Exact t cycles (eqb (r .verdict) valid)
-  checked p = (e ∙ ap checkAnswer (p .0), rw (e, number-valid v) (p .1))
+      (v ≡ checkOf (parse t) cycles)
+      × ((numbersOfCheck v ≡ numbersOfCheck (checkOf (parse t) cycles)) × Exact t cycles (numbersOfCheck v .verdict) (numbersOfCheck v .position .0))
+      → (r ≡ checkAnswer (numbersOfCheck (checkOf (parse t) cycles))) × Exact t cycles (r .verdict) (r .position .0)
+  checked p = (e ∙ ap checkAnswer (p .1 .0), rw e (p .1 .1))
 
 -- the numbers of a run, its outcome taken apart
 pub ran :
@@ -62,5 +58,5 @@ pub ran :
       needed = needed;
       peak = run .peak;
     }
-    ≡ runNumbers run
+    ≡ runAnswer (numbersOfRun (Ran run))
 ran run whole needed e f = rw (e, f) refl

@@ -1,2 +1,4 @@
+pub mod Main
 pub mod Laws
 pub mod Lines
+pub mod Cases

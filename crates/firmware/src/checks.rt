@@ -1,11 +1,13 @@
 // A plan that anyone made: its verdict, and its run on the dock.
 ghost use mathlib.Core.Path.{_≡_};
-ghost use lib.Dec.{eqb};
 ghost use Rattle.ticket.specs.Ticket.{parse};
+ghost use Rattle.checker.specs.Numbers.{numbersOf};
 ghost use Rattle.checker.specs.Check.{checkOf};
 ghost use Rattle.checker.specs.Exact.{Exact};
+ghost use Rattle.replay.specs.Numbers.{completeIn, neededIn, numbersOf as numbersOfRun};
 ghost use Rattle.replay.specs.Run.{ranOf};
-ghost use Rattle.firmware.specs.Answers.{valid, checkAnswer, runNumbers, runAnswer, completeIn, neededIn};
+ghost use Rattle.replay.specs.declared.Answer.the-variants.{Ran};
+ghost use Rattle.firmware.specs.Answers.{checkAnswer, runAnswer};
 use schedule::Cycle;
 use schedule::Position;
 
@@ -53,7 +55,7 @@ fn fault(verdict: u8, p: Position) -> CheckAnswer
 }
 
 fn check_answer(verdict: checker::Verdict) -> CheckAnswer
-    ensures { λ r. ⌜ r ≡ checkAnswer verdict ⌝ }
+    ensures { λ r. ⌜ r ≡ checkAnswer (numbersOf verdict) ⌝ }
 {
     match verdict {
         checker::Verdict::Valid(cycles, peak) => CheckAnswer {
@@ -79,8 +81,8 @@ fn check_answer(verdict: checker::Verdict) -> CheckAnswer
 // `exact` is demand 2's last sentence: a plan is called valid exactly when it meets the paper's conditions.
 #[no_mangle]
 pub extern "C" fn dockplan_check(ticket: &[u8], plan: &[u16]) -> CheckAnswer
-    ensures answer { λ r. ⌜ r ≡ checkAnswer (checkOf (parse (now (ticket .entry))) (now (plan .entry))) ⌝ }
-    ensures exact { λ r. ⌜ Exact (now (ticket .entry)) (now (plan .entry)) (eqb (r .verdict) valid) ⌝ }
+    ensures answer { λ r. ⌜ r ≡ checkAnswer (numbersOf (checkOf (parse (now (ticket .entry))) (now (plan .entry)))) ⌝ }
+    ensures exact { λ r. ⌜ Exact (now (ticket .entry)) (now (plan .entry)) (r .verdict) (r .position .0) ⌝ }
 {
     check_answer(checker::check(ticket, plan))
 }
@@ -104,7 +106,7 @@ fn cycles_needed(outcome: replay::Outcome) -> Cycle
 }
 
 fn ran(run: replay::Run) -> RunAnswer
-    ensures { λ r. ⌜ r ≡ runNumbers run ⌝ }
+    ensures { λ r. ⌜ r ≡ runAnswer (numbersOfRun (Ran run)) ⌝ }
 {
     let outcome = run.outcome;
     let ended = run.ended;
@@ -120,7 +122,7 @@ fn ran(run: replay::Run) -> RunAnswer
 }
 
 fn run_answer(answer: replay::Answer) -> RunAnswer
-    ensures { λ r. ⌜ r ≡ runAnswer answer ⌝ }
+    ensures { λ r. ⌜ r ≡ runAnswer (numbersOfRun answer) ⌝ }
 {
     match answer {
         replay::Answer::Ran(run) => ran(run),
@@ -138,7 +140,7 @@ fn run_answer(answer: replay::Answer) -> RunAnswer
 
 #[no_mangle]
 pub extern "C" fn dockplan_run_plan(ticket: &[u8], plan: &[u16]) -> RunAnswer
-    ensures { λ r. ⌜ r ≡ runAnswer (ranOf (parse (now (ticket .entry))) (now (plan .entry))) ⌝ }
+    ensures { λ r. ⌜ r ≡ runAnswer (numbersOfRun (ranOf (parse (now (ticket .entry))) (now (plan .entry)))) ⌝ }
 {
     run_answer(replay::run_plan(ticket, plan))
 }

@@ -1,7 +1,8 @@
 // What a ticket says: its header, the line at a position, and the frames of each card.
 ghost use mathlib.Core.Path.{_≡_};
 ghost use lib.ListN.{take, drop};
-ghost use Rattle.ticket.specs.Ticket.{parse, ticketOf, lineRefusalOf, lineOf};
+ghost use Rattle.header.specs.Numbers.{numbersOf};
+ghost use Rattle.ticket.specs.Ticket.{parse, numbersIn, lineRefusalOf, lineOf};
 ghost use Rattle.firmware.specs.Answers.{ticketAnswer, linePart, countsAnswer};
 use schedule::Position;
 
@@ -31,7 +32,7 @@ pub struct CountsAnswer {
 }
 
 fn ticket_answer(answer: header::Answer) -> TicketAnswer
-    ensures { λ r. ⌜ r ≡ ticketAnswer answer ⌝ }
+    ensures { λ r. ⌜ r ≡ ticketAnswer (numbersOf answer) ⌝ }
 {
     match answer {
         header::Answer::Refused(number) => TicketAnswer {
@@ -56,7 +57,7 @@ fn ticket_answer(answer: header::Answer) -> TicketAnswer
 // Reads the whole ticket, its lines too.
 #[no_mangle]
 pub extern "C" fn dockplan_parse(ticket: &[u8]) -> TicketAnswer
-    ensures { λ r. ⌜ r ≡ ticketAnswer (ticketOf (parse (now (ticket .entry))) .answer) ⌝ }
+    ensures { λ r. ⌜ r ≡ ticketAnswer (numbersIn (parse (now (ticket .entry)))) ⌝ }
 {
     let read = ticket::parse(ticket);
     let answer = read.answer;

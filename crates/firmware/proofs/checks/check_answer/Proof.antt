@@ -1,6 +1,7 @@
 -- `firmware::checks::check_answer` meets its contract.
 -- Assumes nothing.
 use mathlib.Core.Path.{sym, ap, _∙_}
+use Rattle.checker.specs.Numbers.{numbersOf}
 use Rattle.firmware.specs.Answers.{checkAnswer}
 use borrow.Author.Needs.{needs}
 use Rattle.firmware.proofs.checks.check_answer.Statement.{statement}
@@ -31,19 +32,19 @@ enum-known-verdict-5 : tie.Need-enum-known-verdict-5
 enum-known-verdict-5 c = search needs
 
 returns : tie.Need-returns
-returns c = sym (ap checkAnswer (c .before .verdict .given .1))
+returns c = sym (ap (λ x. checkAnswer (numbersOf x)) (c .before .verdict .given .1))
 
 returns-2 : tie.Need-returns-2
-returns-2 c = c .fault .ensures ∙ sym (ap checkAnswer (c .before .before .verdict2 .given .1))
+returns-2 c = c .fault .ensures ∙ sym (ap (λ x. checkAnswer (numbersOf x)) (c .before .before .verdict2 .given .1))
 
 returns-3 : tie.Need-returns-3
-returns-3 c = c .fault2 .ensures ∙ sym (ap checkAnswer (c .before .before .verdict3 .given .1))
+returns-3 c = c .fault2 .ensures ∙ sym (ap (λ x. checkAnswer (numbersOf x)) (c .before .before .verdict3 .given .1))
 
 returns-4 : tie.Need-returns-4
-returns-4 c = c .fault3 .ensures ∙ sym (ap checkAnswer (c .before .before .verdict4 .given .1))
+returns-4 c = c .fault3 .ensures ∙ sym (ap (λ x. checkAnswer (numbersOf x)) (c .before .before .verdict4 .given .1))
 
 returns-5 : tie.Need-returns-5
-returns-5 c = sym (ap checkAnswer (c .before .verdict5 .given .1))
+returns-5 c = sym (ap (λ x. checkAnswer (numbersOf x)) (c .before .verdict5 .given .1))
 
 pub check-answer-spec : {M : Type 1} → statement M
 check-answer-spec =

@@ -13,7 +13,7 @@ run-answer-requires : tie.Need-run-answer-requires
 run-answer-requires c κs = search needs
 
 returns : tie.Need-returns
-returns c = c .run-answer .ensures ∙ ap runAnswer (c .before .run-plan .ensures)
+returns c = c .run-answer .ensures ∙ ap runAnswer (c .before .run-plan .ensures .1)
 
 pub dockplan-run-plan-spec : {M : Type 1} → statement M
 dockplan-run-plan-spec = tie.close (tie.spec run-plan-requires run-answer-requires returns)

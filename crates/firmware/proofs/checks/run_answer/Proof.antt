@@ -1,6 +1,7 @@
 -- `firmware::checks::run_answer` meets its contract.
 -- Assumes nothing.
 use mathlib.Core.Path.{sym, ap, _∙_}
+use Rattle.replay.specs.Numbers.{numbersOf}
 use Rattle.firmware.specs.Answers.{runAnswer}
 use borrow.Author.Needs.{needs}
 use Rattle.firmware.proofs.checks.run_answer.Statement.{statement}
@@ -16,10 +17,10 @@ enum-known-answer-2 : tie.Need-enum-known-answer-2
 enum-known-answer-2 c = search needs
 
 returns : tie.Need-returns
-returns c = c .ran .ensures ∙ sym (ap runAnswer (c .before .before .answer .given .1))
+returns c = c .ran .ensures ∙ sym (ap (λ x. runAnswer (numbersOf x)) (c .before .before .answer .given .1))
 
 returns-2 : tie.Need-returns-2
-returns-2 c = sym (ap runAnswer (c .before .answer2 .given .1))
+returns-2 c = sym (ap (λ x. runAnswer (numbersOf x)) (c .before .answer2 .given .1))
 
 pub run-answer-spec : {M : Type 1} → statement M
 run-answer-spec =

@@ -1,6 +1,7 @@
 -- `firmware::plans::plan_answer` meets its contract.
 -- Assumes nothing.
 use mathlib.Core.Path.{sym, ap}
+use Rattle.planner.specs.Numbers.{numbersOf}
 use Rattle.firmware.specs.Answers.{planAnswer}
 use borrow.Author.Needs.{needs}
 use Rattle.firmware.proofs.plans.plan_answer.Statement.{statement}
@@ -13,10 +14,10 @@ enum-known-answer-2 : tie.Need-enum-known-answer-2
 enum-known-answer-2 c = search needs
 
 returns : tie.Need-returns
-returns c = sym (ap planAnswer (c .before .answer .given .1))
+returns c = sym (ap (λ x. planAnswer (numbersOf x)) (c .before .answer .given .1))
 
 returns-2 : tie.Need-returns-2
-returns-2 c = sym (ap planAnswer (c .before .answer2 .given .1))
+returns-2 c = sym (ap (λ x. planAnswer (numbersOf x)) (c .before .answer2 .given .1))
 
 pub plan-answer-spec : {M : Type 1} → statement M
 plan-answer-spec = tie.close (tie.spec enum-known-answer enum-known-answer-2 returns returns-2)

@@ -1,7 +1,6 @@
 -- `firmware::tickets::dockplan_parse` meets its contract.
 -- Assumes nothing.
 use mathlib.Core.Path.{ap, _∙_}
-use Rattle.ticket.specs.declared.Ticket.{Ticket}
 use Rattle.firmware.specs.Answers.{ticketAnswer}
 use borrow.Author.Needs.{needs}
 use Rattle.firmware.proofs.tickets.dockplan_parse.Statement.{statement}
@@ -14,7 +13,7 @@ ticket-answer-requires : tie.Need-ticket-answer-requires
 ticket-answer-requires c κs = search needs
 
 returns : tie.Need-returns
-returns c = c .ticket-answer .ensures ∙ ap (λ (x : Ticket). ticketAnswer (x .answer)) (c .before .parse .ensures .0)
+returns c = c .ticket-answer .ensures ∙ ap ticketAnswer (c .before .parse .ensures .1)
 
 pub dockplan-parse-spec : {M : Type 1} → statement M
 dockplan-parse-spec = tie.close (tie.spec parse-requires ticket-answer-requires returns)

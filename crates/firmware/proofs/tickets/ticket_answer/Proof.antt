@@ -1,6 +1,7 @@
 -- `firmware::tickets::ticket_answer` meets its contract.
 -- Assumes nothing.
 use mathlib.Core.Path.{sym, ap}
+use Rattle.header.specs.Numbers.{numbersOf}
 use Rattle.firmware.specs.Answers.{ticketAnswer}
 use borrow.Author.Needs.{needs}
 use Rattle.firmware.proofs.tickets.ticket_answer.Statement.{statement}
@@ -13,10 +14,10 @@ enum-known-answer-2 : tie.Need-enum-known-answer-2
 enum-known-answer-2 c = search needs
 
 returns : tie.Need-returns
-returns c = sym (ap ticketAnswer (c .before .answer .given .1))
+returns c = sym (ap (λ x. ticketAnswer (numbersOf x)) (c .before .answer .given .1))
 
 returns-2 : tie.Need-returns-2
-returns-2 c = sym (ap ticketAnswer (c .before .answer2 .given .1))
+returns-2 c = sym (ap (λ x. ticketAnswer (numbersOf x)) (c .before .answer2 .given .1))
 
 pub ticket-answer-spec : {M : Type 1} → statement M
 ticket-answer-spec = tie.close (tie.spec enum-known-answer enum-known-answer-2 returns returns-2)

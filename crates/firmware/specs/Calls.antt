@@ -1,0 +1,106 @@
+-- Calls with their inputs, and what each answers, in plain numbers: the library's calls by the definitions that their contracts give, and the
+-- dock's calls. specs/Cases.antt is a table of these.
+-- Assumes nothing.
+use Prim.Native.Nat.{ℕ}
+use mathlib.Core.Bool.{Bool}
+use mathlib.Core.List.{List, map}
+use lib.ListN.{length}
+use Rattle.header.specs.declared.Header.{Header}
+use Rattle.ticket.specs.Ticket.{parse, numbersIn, lineRefusalOf}
+use Rattle.ticket.specs.Print.{ticketText}
+use Rattle.planner.specs.Plan.{answerTo, bufferAfter}
+use Rattle.planner.specs.Numbers.{numbersOf as numbersOfPlan}
+use Rattle.checker.specs.Check.{checkOf}
+use Rattle.checker.specs.Numbers.{numbersOf as numbersOfCheck}
+use Rattle.replay.specs.Run.{ranOf}
+use Rattle.replay.specs.Numbers.{numbersOf as numbersOfRun}
+use Rattle.printing.specs.Printed.{printed, bytesIn, bufferAfter as textAfter}
+use Rattle.saver.specs.Calls.{newOf, saveOf, closeOf}
+use Rattle.saver.specs.declared.Saver.{Saver}
+use Rattle.saver.specs.declared.Answer.{Answer as SaverAnswer}
+use Rattle.dock.specs.State.{startOf, memoryStarted}
+use Rattle.dock.specs.Drive.{driveOf, memoryDriven}
+use Rattle.dock.specs.declared.Dock.{Dock}
+use Rattle.dock.specs.declared.Step.{Step}
+use Rattle.dock.specs.declared.Driven.{Driven}
+use Rattle.firmware.specs.Answers.{ticketAnswer, linePart, countsAnswer, planAnswer, checkAnswer, runAnswer}
+use Rattle.firmware.specs.declared.tickets.TicketAnswer.{TicketAnswer}
+use Rattle.firmware.specs.declared.tickets.Part.{Part}
+use Rattle.firmware.specs.declared.tickets.CountsAnswer.{CountsAnswer}
+use Rattle.firmware.specs.declared.plans.PlanAnswer.{PlanAnswer}
+use Rattle.firmware.specs.declared.checks.CheckAnswer.{CheckAnswer}
+use Rattle.firmware.specs.declared.checks.RunAnswer.{RunAnswer}
+
+-- A call, with a ticket and what else it takes: a lent buffer as it is before the call, a plan, a position, a saver's record, memory, a step.
+pub data Call : Type 0 where
+  parseTicket : List ℕ → Call
+  planTicket : List ℕ → List ℕ → Call
+  printPlan : List ℕ → List ℕ → Call
+  checkPlan : List ℕ → List ℕ → Call
+  runPlan : List ℕ → List ℕ → Call
+  line : List ℕ → ℕ → Call
+  counts : List ℕ → Call
+  newSaver : ℕ → ℕ → Call
+  save : Saver → ℕ → Call
+  close : Saver → Call
+  startDock : List ℕ → List ℕ → Call
+  driveDock : Dock → List ℕ → Step → Call
+
+-- What it answers, and lent memory afterwards.
+pub data Result : Type 0 where
+  -- refusal, edition, mode, cards, pool, frames
+  ticket : ℕ → ℕ → ℕ → ℕ → ℕ → ℕ → Result
+  -- refusal, T, the buffer
+  plan : ℕ → ℕ → List ℕ → Result
+  -- bytes, the buffer
+  text : ℕ → List ℕ → Result
+  -- refusal, verdict, position, T, peak
+  verdict : ℕ → ℕ → ℕ → ℕ → ℕ → Result
+  -- refusal, broken off, complete, delivered, cycles ended, cycles needed, peak
+  run : ℕ → Bool → Bool → ℕ → ℕ → ℕ → ℕ → Result
+  -- offset, length, and the number of the call beside it
+  part : ℕ → ℕ → ℕ → Result
+  -- refusal, the frames of each card
+  cardCounts : ℕ → List ℕ → Result
+  -- refusal, cycle, the entries of the cards, the record
+  saved : ℕ → ℕ → List ℕ → Saver → Result
+  -- refusal, the record, memory
+  dock : ℕ → Dock → List ℕ → Result
+
+abbrev ofTicket : TicketAnswer → Result
+ofTicket a = ticket (a .refusal) (a .edition) (a .mode) (a .cards) (a .pool) (a .frames)
+
+abbrev ofPlan : PlanAnswer → List ℕ → Result
+ofPlan a buffer = plan (a .refusal) (a .cycles .0) buffer
+
+abbrev ofCheck : CheckAnswer → Result
+ofCheck a = verdict (a .refusal) (a .verdict) (a .position .0) (a .cycles .0) (a .peak)
+
+abbrev ofRun : RunAnswer → Result
+ofRun a = run (a .refusal) (a .broken) (a .complete) (a .delivered) (a .ended .0) (a .needed .0) (a .peak)
+
+abbrev ofLine : Part → ℕ → Result
+ofLine a number = part (a .offset) (a .length) number
+
+abbrev ofCounts : CountsAnswer → Result
+ofCounts a = cardCounts (a .refusal) (a .frames)
+
+abbrev ofSaver : SaverAnswer → Result
+ofSaver a = saved (a .refusal) (a .cycle .0) (map (λ p. p .0) (a .written)) (a .saver)
+
+abbrev ofDock : Driven → List ℕ → Result
+ofDock a memory = dock (a .refusal) (a .dock) memory
+
+abbrev pub resultOf : Call → Result
+resultOf (parseTicket t) = ofTicket (ticketAnswer (numbersIn (parse t)))
+resultOf (planTicket t buffer) = ofPlan (planAnswer (numbersOfPlan (answerTo (parse t) (length buffer)))) (bufferAfter (parse t) buffer)
+resultOf (printPlan t buffer) = text (bytesIn (printed t) (length buffer)) (textAfter (printed t) buffer)
+resultOf (checkPlan t cycles) = ofCheck (checkAnswer (numbersOfCheck (checkOf (parse t) cycles)))
+resultOf (runPlan t cycles) = ofRun (runAnswer (numbersOfRun (ranOf (parse t) cycles)))
+resultOf (line t p) = ofLine (linePart t p) (lineRefusalOf (parse t) p)
+resultOf (counts t) = ofCounts (countsAnswer (parse t))
+resultOf (newSaver cards pool) = ofSaver (newOf cards pool)
+resultOf (save s card) = ofSaver (saveOf s card)
+resultOf (close s) = ofSaver (closeOf s)
+resultOf (startDock t memory) = ofDock (startOf (parse t) (length memory)) (memoryStarted (parse t) memory)
+resultOf (driveDock d memory step) = ofDock (driveOf d memory step) (memoryDriven d memory step)

@@ -1,0 +1,164 @@
+-- The rows of document 01's refusal table, and answers that are no refusal: a call, its input, and the whole answer in plain numbers.
+-- proofs/Cases.antt proves them by computing. So a number that is changed in a definition and in its code alike is refused here.
+-- Assumes nothing.
+use Prim.Native.Nat.{ℕ}
+use mathlib.Core.Bool.{Bool, true, false}
+use mathlib.Core.List.{List, [], _∷_}
+use lib.ListN.{replicate}
+use Rattle.schedule.specs.declared.Cycle.{Cycle}
+use Rattle.schedule.specs.declared.Position.{Position}
+use Rattle.ticket.specs.Print.{ticketText}
+use Rattle.saver.specs.declared.Saver.{Saver}
+use Rattle.dock.specs.declared.Dock.{Dock}
+use Rattle.dock.specs.declared.Step.the-variants.{Read, End}
+use Rattle.firmware.specs.Calls.{Call, parseTicket, planTicket, printPlan, checkPlan, runPlan, line, counts}
+use Rattle.firmware.specs.Calls.{newSaver, save, close, startDock, driveDock}
+use Rattle.firmware.specs.Calls.{Result, ticket, plan, text, verdict, run, part, cardCounts, saved, dock}
+
+infix 70 _gives_
+pub data Case : Type 0 where
+  _gives_ : Call → Result → Case
+
+abbrev pub call : Case → Call
+call (c gives r) = c
+
+abbrev pub expected : Case → Result
+expected (c gives r) = r
+
+-- a ticket: edition, mode, cards, pool and frames as they stand in the header, and the cards of its lines
+abbrev ticketOf : ℕ → ℕ → ℕ → ℕ → ℕ → List ℕ → List ℕ
+ticketOf edition mode cards pool frames list =
+    ticketText (record { edition = edition; mode = mode; cards = cards; pool = pool; frames = frames }) list
+
+-- document 01's example, list 0 0 1 with a pool of 2: read, save, save and keep
+abbrev read001 : List ℕ
+read001 = ticketOf 1 0 2 2 3 (0 ∷ 0 ∷ 1 ∷ [])
+
+abbrev save001 : List ℕ
+save001 = ticketOf 1 1 2 2 3 (0 ∷ 0 ∷ 1 ∷ [])
+
+abbrev keep001 : List ℕ
+keep001 = ticketOf 1 2 2 2 3 (0 ∷ 0 ∷ 1 ∷ [])
+
+abbrev position : ℕ → Position
+position i = record { 0 = i }
+
+-- a saver's record: cards, pool, frames taken, cycles made, closing begun, how many frames wait, and the two tables
+abbrev saver : ℕ → ℕ → ℕ → ℕ → Bool → ℕ → List ℕ → List Position → Saver
+saver cards pool taken made closing waiting card positions =
+    record {
+      cards = cards;
+      pool = pool;
+      taken = taken;
+      made = record { 0 = made };
+      waiting = waiting;
+      closing = closing;
+      card = card;
+      position = positions;
+    }
+
+-- one with no frame waiting
+abbrev idle : ℕ → ℕ → ℕ → ℕ → Bool → Saver
+idle cards pool taken made closing = saver cards pool taken made closing 0 (replicate 1024 0) (replicate 1024 (position 0))
+
+-- "the record that comes with such a refusal has one card, a pool of 1, nothing taken or waiting, and closing begun"
+abbrev refusedSaver : Saver
+refusedSaver = idle 1 1 0 0 true
+
+-- no card writes
+abbrev nothing : List ℕ
+nothing = replicate 32 65535
+
+-- a dock's record: frames, pool, delivered, held, cycles ended, broken off, any card has read, which
+abbrev dockOf : ℕ → ℕ → ℕ → ℕ → ℕ → Bool → Bool → List Bool → Dock
+dockOf frames pool delivered holding ended broken reading busy =
+    record {
+      frames = frames;
+      pool = pool;
+      delivered = delivered;
+      holding = holding;
+      ended = ended;
+      broken = broken;
+      reading = reading;
+      busy = busy;
+    }
+
+abbrev emptyDock : ℕ → ℕ → Dock
+emptyDock frames pool = dockOf frames pool 0 0 0 false false (replicate 32 false)
+
+abbrev pub cases : List Case
+cases =
+    -- 1: the first 15 bytes are not 14 digits and an end byte; other numbers are 0, the counts too, and lent memory is unchanged
+    parseTicket [] gives ticket 1 0 0 0 0 0
+    ∷ planTicket [] (9 ∷ []) gives plan 1 0 (9 ∷ [])
+    ∷ checkPlan [] [] gives verdict 1 0 0 0 0
+    ∷ runPlan [] [] gives run 1 false false 0 0 0 0
+    ∷ line [] 0 gives part 0 0 1
+    ∷ counts [] gives cardCounts 1 (replicate 32 0)
+    ∷ startDock [] (7 ∷ []) gives dock 1 (emptyDock 0 0) (7 ∷ [])
+    -- printed: FF01, if there is room for it
+    ∷ printPlan [] (9 ∷ 9 ∷ 9 ∷ 9 ∷ 9 ∷ 9 ∷ []) gives text 5 (70 ∷ 70 ∷ 48 ∷ 49 ∷ 10 ∷ 9 ∷ [])
+    ∷ printPlan [] (9 ∷ 9 ∷ 9 ∷ 9 ∷ []) gives text 0 (9 ∷ 9 ∷ 9 ∷ 9 ∷ [])
+    -- 2: edition is not 01
+    ∷ parseTicket (ticketOf 2 0 2 2 0 []) gives ticket 2 0 0 0 0 0
+    -- 3: mode is over 02
+    ∷ parseTicket (ticketOf 1 3 2 2 0 []) gives ticket 3 0 0 0 0 0
+    -- 4: cards not 1 to 32
+    ∷ parseTicket (ticketOf 1 0 33 2 0 []) gives ticket 4 0 0 0 0 0
+    ∷ newSaver 33 0 gives saved 4 0 nothing refusedSaver
+    -- 5: pool not 1 to 1,024
+    ∷ parseTicket (ticketOf 1 0 2 1025 0 []) gives ticket 5 0 0 0 0 0
+    ∷ newSaver 32 1025 gives saved 5 0 nothing refusedSaver
+    -- 6: frames over 4,096
+    ∷ parseTicket (ticketOf 1 0 2 2 4097 []) gives ticket 6 0 0 0 0 0
+    -- 7: a frame line is missing
+    ∷ parseTicket (ticketOf 1 0 2 2 1 []) gives ticket 7 0 0 0 0 0
+    -- 8: a card number is not below cards
+    ∷ parseTicket (ticketOf 1 0 2 2 1 (2 ∷ [])) gives ticket 8 0 0 0 0 0
+    ∷ save (idle 2 2 0 0 false) 2 gives saved 8 0 nothing (idle 2 2 0 0 false)
+    -- 9: bytes follow the last line
+    ∷ parseTicket (ticketOf 1 0 2 2 0 (0 ∷ [])) gives ticket 9 0 0 0 0 0
+    -- 10: plan buffer, or memory for the dock, has fewer than L places
+    ∷ planTicket read001 (9 ∷ 9 ∷ []) gives plan 10 0 (9 ∷ 9 ∷ [])
+    ∷ startDock read001 (7 ∷ 7 ∷ []) gives dock 10 (emptyDock 0 0) (7 ∷ 7 ∷ [])
+    ∷ driveDock (emptyDock 3 2) (0 ∷ 0 ∷ []) End gives dock 10 (emptyDock 3 2) (0 ∷ 0 ∷ [])
+    -- 11: a plan that is checked or run has not exactly L cycles
+    ∷ checkPlan read001 (1 ∷ 2 ∷ []) gives verdict 11 0 0 0 0
+    ∷ runPlan read001 (1 ∷ 2 ∷ []) gives run 11 false false 0 0 0 0
+    -- 12, before 11: the checker is given mode 02
+    ∷ checkPlan keep001 (1 ∷ 2 ∷ []) gives verdict 12 0 0 0 0
+    -- 13: the saver has taken 4,096 frames
+    ∷ save (idle 2 2 4096 9 false) 1 gives saved 13 0 nothing (idle 2 2 4096 9 false)
+    -- 14: a closing cycle with an empty pool
+    ∷ close (idle 2 2 0 0 false) gives saved 14 0 nothing (idle 2 2 0 0 false)
+    -- 15, before 8: a save after closing has begun
+    ∷ save refusedSaver 1 gives saved 15 0 nothing refusedSaver
+    -- 16: a line is wanted at a position not below L
+    ∷ line read001 3 gives part 0 0 16
+    -- no refusal: what stands in the header, a plan, a line, counts
+    ∷ parseTicket read001 gives ticket 0 1 0 2 2 3
+    ∷ planTicket read001 (9 ∷ 9 ∷ 9 ∷ 9 ∷ []) gives plan 0 2 (1 ∷ 2 ∷ 2 ∷ 9 ∷ [])
+    ∷ line read001 1 gives part 18 2 0
+    ∷ counts read001 gives cardCounts 0 (2 ∷ 1 ∷ replicate 30 0)
+    -- the verdicts: 1 valid, 2 cycle 0, 3 a shared card, 4 too many in the pool
+    ∷ checkPlan read001 (1 ∷ 2 ∷ 1 ∷ []) gives verdict 0 1 0 2 1
+    ∷ checkPlan save001 (1 ∷ 2 ∷ 2 ∷ []) gives verdict 0 1 0 2 0
+    ∷ checkPlan read001 (1 ∷ 2 ∷ 0 ∷ []) gives verdict 0 2 2 0 0
+    ∷ checkPlan read001 (1 ∷ 1 ∷ 2 ∷ []) gives verdict 0 3 1 0 0
+    ∷ checkPlan read001 (2 ∷ 1 ∷ 2 ∷ []) gives verdict 0 4 0 0 0
+    -- runs: complete, against the rules, and one that leaves a frame out
+    ∷ runPlan read001 (1 ∷ 2 ∷ 1 ∷ []) gives run 0 false true 3 2 2 1
+    ∷ runPlan read001 (1 ∷ 1 ∷ 2 ∷ []) gives run 0 true false 0 0 0 0
+    ∷ runPlan read001 (0 ∷ 1 ∷ 2 ∷ []) gives run 0 false false 0 2 0 2
+    -- a saver: new; a frame on card 1; and the closing cycle that writes it
+    ∷ newSaver 2 2 gives saved 0 0 nothing (idle 2 2 0 0 false)
+    ∷ save (idle 2 2 0 0 false) 1 gives saved 0 0 nothing (saver 2 2 1 0 false 1 (1 ∷ replicate 1023 0) (replicate 1024 (position 0)))
+    ∷ close (saver 2 2 1 0 false 1 (1 ∷ replicate 1023 0) (replicate 1024 (position 0)))
+    gives saved 0 1 (65535 ∷ 0 ∷ replicate 30 65535) (idle 2 2 1 1 true)
+    -- a dock: started; a read; a step against the rules, which is no refusal
+    ∷ startDock read001 (7 ∷ 7 ∷ 7 ∷ 7 ∷ []) gives dock 0 (emptyDock 3 2) (0 ∷ 0 ∷ 1 ∷ 7 ∷ [])
+    ∷ driveDock (emptyDock 3 2) (0 ∷ 0 ∷ 1 ∷ 7 ∷ []) (Read (position 2))
+    gives dock 0 (dockOf 3 2 0 1 0 false true (false ∷ true ∷ replicate 30 false)) (0 ∷ 0 ∷ 129 ∷ 7 ∷ [])
+    ∷ driveDock (emptyDock 3 2) (0 ∷ 0 ∷ 1 ∷ 7 ∷ []) (Read (position 3))
+    gives dock 0 (dockOf 3 2 0 0 0 true false (replicate 32 false)) (0 ∷ 0 ∷ 1 ∷ 7 ∷ [])
+    ∷ []
