@@ -66,7 +66,8 @@ backlog-save save cycles i e = rw e
 pub backlog-read : (save : Bool) (cycles : List ℕ) (i : ℕ) → save ≡ false → iBacklog cycles i ≡ backlogOf save cycles i
 backlog-read save cycles i e = rw e
 
-pub not-overfull : (save : Bool) (m : ℕ) (cycles : List ℕ) (i : ℕ) → Roomy save m cycles → i < length cycles → false ≡ leb m (backlogOf save cycles i)
+pub not-overfull : (save : Bool) (m : ℕ) (cycles : List ℕ) (i : ℕ) → Roomy save m cycles → i < length cycles
+    → false ≡ leb m (backlogOf save cycles i)
 not-overfull save m cycles i v l = sym (lt-leb m (backlogOf save cycles i) (v .each i l))
 
 -- frame by frame: what the tests of a frame say
@@ -80,7 +81,8 @@ module _ (save : Bool) (m : ℕ) (cards cycles : List ℕ) (i : ℕ) where
     unfolding frameVerdict
     says-shared s = sym (ap answerOf (judged-shared (backlogOf save) m cards cycles i clear n s))
 
-    pub says-overfull : shares cards cycles i ≡ false → leb m (backlogOf save cycles i) ≡ true → atFault i overfull ≡ frameVerdict save m cards cycles i
+    pub says-overfull : shares cards cycles i ≡ false → leb m (backlogOf save cycles i) ≡ true
+        → atFault i overfull ≡ frameVerdict save m cards cycles i
     unfolding frameVerdict
     says-overfull s l = rw (ne-eqb (cycleOf cycles i) 0 n, s, l)
 
@@ -123,7 +125,8 @@ module _ {save : Bool} {m : ℕ} {cards cycles latest : List ℕ} {i : ℕ} (v :
           ∙ sym apart
           ∙ v .rest)
 
-      pub next-frame : isValid r ≡ true → {s : ℕ} → s ≡ max (getD latest c 0) (cycleOf cycles i) → Frames save m cards cycles (set latest c s) (i + 1)
+      pub next-frame : isValid r ≡ true → {s : ℕ} → s ≡ max (getD latest c 0) (cycleOf cycles i)
+          → Frames save m cards cycles (set latest c s) (i + 1)
       unfolding frameVerdict
       next-frame e {s} s-is =
           record {

@@ -83,7 +83,8 @@ module _ {cards cycles : List ℕ} (f : Checking cards cycles) where
             completed-valid v top 0 e ∙ save-judged (v-is ∙ ap (λ x. firstFault x m cards cycles) s) ∙ as-save m cards cycles s
 
         pub large-read :
-            isValid v ≡ true → save ≡ false → {p : ℕ} → p ≡ mostOf readBefore cycles → Valid (record { 0 = top }) p ≡ answerOf (verdictOn save m cards cycles)
+            isValid v ≡ true → save ≡ false → {p : ℕ} → p ≡ mostOf readBefore cycles
+            → Valid (record { 0 = top }) p ≡ answerOf (verdictOn save m cards cycles)
         large-read e s {p} p-is =
             completed-valid v top p e ∙ read-judged p-is (v-is ∙ ap (λ x. firstFault x m cards cycles) s) ∙ as-read m cards cycles s
 

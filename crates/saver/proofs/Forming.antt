@@ -22,7 +22,8 @@ use Rattle.saver.specs.Formed.{Formed}
 use Rattle.saver.proofs.Tables.{numbers-of, numbers-set}
 use Rattle.saver.proofs.Answers.{save-cases, close-cases}
 
-formed-new : (cards pool : ℕ) (closing : Bool) → 1 ≤ cards → cards ≤ maxCards → 1 ≤ pool → pool ≤ maxPool → Formed (newSaver cards pool closing)
+formed-new : (cards pool : ℕ) (closing : Bool) → 1 ≤ cards → cards ≤ maxCards → 1 ≤ pool → pool ≤ maxPool
+    → Formed (newSaver cards pool closing)
 formed-new cards pool closing a b h k =
     record {
       few-cards = b;

@@ -17,7 +17,8 @@ use Rattle.header.specs.Numbers.{numbersOf}
 use Rattle.header.specs.Limits.{maxCards, maxFrames}
 use Rattle.ticket.specs.Grounds.{Fits}
 use Rattle.ticket.specs.Part.{place}
-use Rattle.ticket.specs.Ticket.{Parsed, accepted, refused, lineBytes, lineDigits, cardAt, partFault, parse, ticketOf, numbersIn, lineRefusalOf, lineStart, lineIn, lineOf, linePlace, countsUpTo, countsOf, zeros}
+use Rattle.ticket.specs.Ticket.{Parsed, accepted, refused, cardAt, partFault, parse, zeros, ticketOf, numbersIn, countsUpTo, countsOf}
+use Rattle.ticket.specs.Ticket.{lineBytes, lineDigits, lineRefusalOf, lineStart, lineIn, lineOf, linePlace}
 use Rattle.ticket.proofs.Accepted.{as-many, fits, line-inside}
 use Rattle.ticket.proofs.Counting.{counts-front}
 use Rattle.ticket.proofs.Reader.{header-passes, header-read, refusal-number}
@@ -34,7 +35,8 @@ module _ (t : List ℕ) where
     few-frames = rw (header-read t h e) (header-passes t h e .frames)
 
     pub part-refused :
-        (k : ℕ) → k ≡ partFault (take (length t - headerBytes) (drop headerBytes t)) (h .cards) (h .frames) → (k ≡ 0 → ⊥) → parse t ≡ refused k
+        (k : ℕ) → k ≡ partFault (take (length t - headerBytes) (drop headerBytes t)) (h .cards) (h .frames) → (k ≡ 0 → ⊥)
+        → parse t ≡ refused k
     unfolding parse
     part-refused k q n = let q : k ≡ partFault (drop headerBytes t) (h .cards) (h .frames) = rw from-place at q in rw (e, ← q, ne-eqb _ _ n)
 

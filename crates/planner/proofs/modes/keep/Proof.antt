@@ -40,7 +40,10 @@ loop-less : tie.Need-loop-less Inv-loop μ-loop
 loop-less c = search needs
 
 loop-again : tie.Need-loop-again Inv-loop μ-loop
-loop-again c = (omega arith, replaced-next (c .before .before .before .loop .inv .1) _ (omega (arith, c .before .before .before .before .before .pre)) (c .as-of .ensures))
+loop-again c =
+    let replaced = c .before .before .before .loop .inv .1 in
+    let room = c .before .before .before .before .before .pre in
+    (omega arith, replaced-next replaced _ (omega (arith, room)) (c .as-of .ensures))
 
 same-length : tie.Need-same-length Inv-loop μ-loop
 same-length c = replaced-length (c .before .loop .inv .1)

@@ -11,7 +11,8 @@ use Rattle.planner.proofs.pass.pass.Statement.{statement}
 use Rattle.planner.proofs.pass.pass.Tie as tie
 
 abbrev Inv-loop : tie.InvT-loop
-Inv-loop cards m back out₀ due₀ latest₀ made₀ waiting₀ n k₀ out due latest made waiting k = Turn m back cards out₀ out due latest (made .0) waiting k
+Inv-loop cards m back out₀ due₀ latest₀ made₀ waiting₀ n k₀ out due latest made waiting k =
+    Turn m back cards out₀ out due latest (made .0) waiting k
 
 abbrev μ-loop : tie.MeasureT-loop
 μ-loop cards m back out₀ due₀ latest₀ made₀ waiting₀ n k₀ out due latest made waiting k = n - k

@@ -1,0 +1,11 @@
+-- `firmware::checks::fault` meets its contract.
+-- Assumes nothing.
+use mathlib.Core.Path.{refl}
+use Rattle.firmware.proofs.checks.fault.Statement.{statement}
+use Rattle.firmware.proofs.checks.fault.Tie as tie
+
+returns : tie.Need-returns
+returns c = refl
+
+pub fault-spec : {M : Type 1} → statement M
+fault-spec = tie.close (tie.spec returns)
