@@ -4,9 +4,9 @@ use crate::output;
 use crate::tables;
 use crate::tables::Show;
 use checker::Verdict;
-use replay::Answer;
-use replay::Outcome;
-use replay::Run;
+use plan_run::Answer;
+use plan_run::Outcome;
+use plan_run::Run;
 
 fn at_fault(name: &[u8], position: u16) {
     output::text(name);
@@ -86,7 +86,7 @@ fn check_and_run(t: &[u8], plan: &[u16], n: usize) {
         output::ticket(t);
         output::list(given, 4, 6);
         verdict(checker::check(t, given));
-        run(replay::run_plan(t, given));
+        run(plan_run::run_plan(t, given));
     }
 }
 
@@ -99,7 +99,7 @@ pub(crate) fn checked(t: &[u8], text: &[u8]) {
 pub(crate) fn all() {
     output::text(
         b"\nPLANS CHECKED AND RUN\n\
-        checker::check judges a plan: at is the position at fault, or the number of a refusal. replay::run_plan runs the same plan on the dock.\n\n\
+        checker::check judges a plan: at is the position at fault, or the number of a refusal. plan_run::run_plan runs the same plan on the dock.\n\n\
         \x20                                                       check                                run_plan            handed\n\
         ticket                          plan                       verdict            at     T  peak   outcome    needed  over ended  peak  broken\n",
     );

@@ -6,7 +6,7 @@ use crate::tables::Show;
 use dock::Dock;
 use dock::Driven;
 use dock::Step;
-use schedule::Position;
+use counting::Position;
 
 // The dock's counts, and whether it is broken off, any card has read, card 0 has, and card 1 has.
 fn state(d: Dock) {

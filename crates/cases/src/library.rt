@@ -17,7 +17,7 @@ use firmware::tickets::dockplan_line;
 use firmware::tickets::dockplan_line_refusal;
 use firmware::tickets::dockplan_parse;
 use saver::Saver;
-use schedule::Position;
+use counting::Position;
 
 fn flag(yes: bool) {
     if yes {

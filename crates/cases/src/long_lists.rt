@@ -73,7 +73,7 @@ fn plan(t: &[u8], buffer: &mut [u16]) {
     plans::answer(planner::plan(t, buffer));
     output::number(checksum(buffer), 10);
     checks::verdict(checker::check(t, buffer));
-    checks::run(replay::run_plan(t, buffer));
+    checks::run(plan_run::run_plan(t, buffer));
 }
 
 // A ticket of 4,096 frames with this header and layout.

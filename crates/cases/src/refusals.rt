@@ -2,7 +2,7 @@
 use crate::output;
 use crate::tables;
 use crate::tables::Show;
-use schedule::Position;
+use counting::Position;
 
 fn number_of_header(a: header::Answer) -> u8 {
     match a {
@@ -25,10 +25,10 @@ fn number_of_check(v: checker::Verdict) -> u8 {
     }
 }
 
-fn number_of_run(a: replay::Answer) -> u8 {
+fn number_of_run(a: plan_run::Answer) -> u8 {
     match a {
-        replay::Answer::Ran(_) => 0,
-        replay::Answer::Refused(k) => k,
+        plan_run::Answer::Ran(_) => 0,
+        plan_run::Answer::Refused(k) => k,
     }
 }
 
@@ -61,7 +61,7 @@ fn dock_numbers(d: dock::Dock) {
 fn numbers(t: &[u8], plan: &[u16], planned: planner::Answer, started: u8) {
     output::number(number_of_plan(planned) as u64, 6);
     output::number(number_of_check(checker::check(t, plan)) as u64, 6);
-    output::number(number_of_run(replay::run_plan(t, plan)) as u64, 6);
+    output::number(number_of_run(plan_run::run_plan(t, plan)) as u64, 6);
     output::number(started as u64, 6);
 }
 

@@ -3,7 +3,7 @@ ghost use Rattle.saver.specs.Calls.{Given};
 use crate::output;
 use saver::Answer;
 use saver::Saver;
-use schedule::Position;
+use counting::Position;
 
 // The entry of a card that writes nothing.
 const NONE: u16 = 65535;

@@ -3,7 +3,7 @@ use crate::output;
 use crate::tables;
 use crate::tables::Show;
 use header::Answer;
-use schedule::Position;
+use counting::Position;
 
 // The five fields of a header, or the number of its refusal.
 fn fields(a: Answer) {

@@ -3,7 +3,7 @@ use crate::long_lists;
 use crate::output;
 use crate::tables;
 use crate::tables::Show;
-use schedule::Position;
+use counting::Position;
 
 // A line that a walker gave, or "end" for the empty part.
 fn part(line: &[u8]) {

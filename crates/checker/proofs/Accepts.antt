@@ -18,7 +18,7 @@ use Rattle.schedule.specs.Verdict.{Fault, valid, faulty, verdictOnRead, verdict
 use Rattle.schedule.specs.Verdict as theory
 use Rattle.schedule.proofs.Main.{valid-read, read-valid, valid-save, save-valid, read-named, save-named}
 use Rattle.schedule.proofs.Main.{own-read-valid, own-save-valid, read-correct, save-correct}
-use Rattle.header.specs.Limits.{read, save}
+use Rattle.header.specs.Limits.{modeRead, modeSave}
 use Rattle.header.specs.declared.Header.{Header}
 use Rattle.ticket.specs.Ticket.{accepted, parse}
 use Rattle.ticket.proofs.Main.{accepted-fits}
@@ -42,11 +42,11 @@ module _ (cards cycles : List ℕ) (v : theory.Verdict) where
 
 -- which verdict that is
 module _ (h : Header) (cards cycles : List ℕ) where
-  answer-read : h .mode ≡ read → checkOf (accepted h cards) cycles ≡ toPlan cards cycles (verdictOnRead (h .pool) cards cycles)
+  answer-read : h .mode ≡ modeRead → checkOf (accepted h cards) cycles ≡ toPlan cards cycles (verdictOnRead (h .pool) cards cycles)
   unfolding checkOf
   answer-read q = rw q
 
-  answer-save : h .mode ≡ save → checkOf (accepted h cards) cycles ≡ toPlan cards cycles (verdictOnSave (h .pool) cards cycles)
+  answer-save : h .mode ≡ modeSave → checkOf (accepted h cards) cycles ≡ toPlan cards cycles (verdictOnSave (h .pool) cards cycles)
   unfolding checkOf
   answer-save q = rw q
 
@@ -81,10 +81,10 @@ module _ (backlog : List ℕ → ℕ → ℕ) (m : ℕ) (cards cycles : List ℕ
 
 -- a call's answer to a read ticket, and to a save ticket
 module _ (t cycles : List ℕ) (r : Verdict) (e : r ≡ checkOf (parse t) cycles) (h : Header) (cards : List ℕ) (a : parse t ≡ accepted h cards) where
-  of-read : h .mode ≡ read → r ≡ toPlan cards cycles (verdictOnRead (h .pool) cards cycles)
+  of-read : h .mode ≡ modeRead → r ≡ toPlan cards cycles (verdictOnRead (h .pool) cards cycles)
   of-read q = e ∙ ap (λ p. checkOf p cycles) a ∙ answer-read h cards cycles q
 
-  of-save : h .mode ≡ save → r ≡ toPlan cards cycles (verdictOnSave (h .pool) cards cycles)
+  of-save : h .mode ≡ modeSave → r ≡ toPlan cards cycles (verdictOnSave (h .pool) cards cycles)
   of-save q = e ∙ ap (λ p. checkOf p cycles) a ∙ answer-save h cards cycles q
 
 pub exact : (t cycles : List ℕ) (r : Verdict) → r ≡ checkOf (parse t) cycles → Exact t cycles (verdictNumber r) (positionNumber r)
@@ -110,7 +110,7 @@ contract t cycles r e = (e, (ap numbersOf e, exact t cycles r e))
 
 module _ (t : List ℕ) (h : Header) (cards : List ℕ) (e : parse t ≡ accepted h cards) where
   pub own-read :
-      h .mode ≡ read
+      h .mode ≡ modeRead
       → checkOf (parse t) (lazyPrefetching (h .pool) cards .cycles)
       ≡ Valid (record { 0 = lazyPrefetching (h .pool) cards .T })
       (peak (length cards) cards (stepsOf (lazyPrefetching (h .pool) cards .cycles)) emptyDock)
@@ -122,7 +122,7 @@ module _ (t : List ℕ) (h : Header) (cards : List ℕ) (e : parse t ≡ accepte
       ∙ ap answerOf (own-read-valid (h .pool) cards pool)
 
   pub own-save :
-      h .mode ≡ save → checkOf (parse t) (greedyWriting (h .pool) cards .cycles) ≡ Valid (record { 0 = greedyWriting (h .pool) cards .T }) 0
+      h .mode ≡ modeSave → checkOf (parse t) (greedyWriting (h .pool) cards .cycles) ≡ Valid (record { 0 = greedyWriting (h .pool) cards .T }) 0
   own-save q =
       let pool = accepted-fits t h cards e .pool .0 in
       let cycles : List ℕ = greedyWriting (h .pool) cards .cycles in

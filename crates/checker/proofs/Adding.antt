@@ -11,9 +11,9 @@ use lib.Dec.{eqb, ltb}
 use lib.ListN.{length, getD, set, length-set}
 use lib.Seq.{getD-set-same, getD-set-other}
 use borrow.Author.Tests.{eq-eqb, ne-eqb, lt-ltb, le-ltb}
-use Rattle.schedule.specs.Count.{bit, howMany}
+use Rattle.counting.specs.Count.{bit, howMany}
 use Rattle.schedule.specs.Schedule.{cycleOf}
-use Rattle.schedule.proofs.Sums.{sum-cong, sum-add, sum-zero, howMany-le}
+use Rattle.counting.proofs.Sums.{sum-cong, sum-add, sum-zero, howMany-le}
 use Rattle.header.specs.Limits.{maxFrames}
 use Rattle.checker.specs.Parts.{cyclesBefore, places, Zeroed, Low, Tallied, Table}
 

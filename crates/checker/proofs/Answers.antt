@@ -8,7 +8,7 @@ use native.Mathlib.Omega.{arith}
 use lib.Dec.{eqb}
 use lib.ListN.{length}
 use borrow.Author.Tests.{eq-eqb, ne-eqb}
-use Rattle.header.specs.Limits.{save, saveAndKeep}
+use Rattle.header.specs.Limits.{modeSave, modeSaveAndKeep}
 use Rattle.header.specs.declared.Header.{Header}
 use Rattle.header.specs.declared.Answer.the-variants.{Refused as RefusedTicket}
 use Rattle.ticket.specs.Ticket.{accepted, parse, ticketOf}
@@ -22,16 +22,16 @@ use Rattle.checker.specs.declared.Verdict.the-variants.{Refused}
 
 -- a list that is read, and a plan
 module _ (h : Header) (cards cycles : List ℕ) where
-  pub keep-refused : h .mode ≡ saveAndKeep → Refused 12 ≡ checkOf (accepted h cards) cycles
+  pub keep-refused : h .mode ≡ modeSaveAndKeep → Refused 12 ≡ checkOf (accepted h cards) cycles
   unfolding checkOf
-  keep-refused e = rw (eq-eqb (h .mode) saveAndKeep e)
+  keep-refused e = rw (eq-eqb (h .mode) modeSaveAndKeep e)
 
-  module _ (f : Fits h cards) (n : h .mode ≢ saveAndKeep) where
+  module _ (f : Fits h cards) (n : h .mode ≢ modeSaveAndKeep) where
     pub length-refused : length cycles ≢ h .frames → Refused 11 ≡ checkOf (accepted h cards) cycles
     unfolding checkOf
     length-refused l =
         let k : length cycles ≢ length cards = λ e. l (e ∙ f .frames) in
-        rw (ne-eqb (h .mode) saveAndKeep n, ne-eqb (length cycles) (length cards) k)
+        rw (ne-eqb (h .mode) modeSaveAndKeep n, ne-eqb (length cycles) (length cards) k)
 
     module _ (l : length cycles ≡ h .frames) where
       pub checking : Checking cards cycles
@@ -42,9 +42,9 @@ module _ (h : Header) (cards cycles : List ℕ) where
             each-card = λ i k. omega (arith, f .each-card i k, f .card-range .1);
           }
 
-      pub checked : (r : Verdict) → r ≡ answerOf (verdictOn (eqb (h .mode) save) (h .pool) cards cycles) → r ≡ checkOf (accepted h cards) cycles
+      pub checked : (r : Verdict) → r ≡ answerOf (verdictOn (eqb (h .mode) modeSave) (h .pool) cards cycles) → r ≡ checkOf (accepted h cards) cycles
       unfolding checkOf
-      checked r e = rw (ne-eqb (h .mode) saveAndKeep n, eq-eqb (length cycles) (length cards) (l ∙ sym (f .frames))) e
+      checked r e = rw (ne-eqb (h .mode) modeSaveAndKeep n, eq-eqb (length cycles) (length cards) (l ∙ sym (f .frames))) e
 
 -- the ticket's reader has refused
 pub ticket-refused :

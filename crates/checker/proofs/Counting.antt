@@ -9,9 +9,9 @@ use native.Mathlib.Numerals.{add-one}
 use lib.Dec.{leb, ltb}
 use lib.ListN.{length}
 use borrow.Author.Tests.{lt-ltb, le-ltb, le-leb, lt-leb}
-use Rattle.schedule.specs.Count.{bit, howMany}
+use Rattle.counting.specs.Count.{bit, howMany}
 use Rattle.schedule.specs.Schedule.{cycleOf}
-use Rattle.schedule.proofs.Sums.{sum-mono, sum-zero, howMany-le}
+use Rattle.counting.proofs.Sums.{sum-mono, sum-zero, howMany-le}
 use Rattle.checker.specs.Parts.{laterUpTo}
 
 -- what is left of n falls

@@ -8,7 +8,7 @@ use Rattle.schedule.specs.Cases.{Case, expected, cases}
 use Rattle.schedule.specs.Greedy.{greedyWriting, lazyPrefetching}
 use Rattle.schedule.specs.Dock.{emptyDock}
 use Rattle.schedule.specs.Drive.{peak, stepsOf}
-use Rattle.header.specs.Limits.{read, save}
+use Rattle.header.specs.Limits.{modeRead, modeSave}
 use Rattle.header.specs.declared.Header.{Header}
 use Rattle.ticket.specs.Ticket.{accepted, parse}
 use Rattle.checker.specs.Check.{checkOf}
@@ -29,14 +29,14 @@ check-exact = accepts.exact
 -- Our own plans are valid, with their T: the read plan also with the peak of its run on a dock with a buffer for every frame.
 module _ (t : List ℕ) (h : Header) (cards : List ℕ) (e : parse t ≡ accepted h cards) where
   pub own-read-valid :
-      h .mode ≡ read
+      h .mode ≡ modeRead
       → checkOf (parse t) (lazyPrefetching (h .pool) cards .cycles)
       ≡ Valid (record { 0 = lazyPrefetching (h .pool) cards .T })
       (peak (length cards) cards (stepsOf (lazyPrefetching (h .pool) cards .cycles)) emptyDock)
   own-read-valid = accepts.own-read t h cards e
 
   pub own-save-valid :
-      h .mode ≡ save → checkOf (parse t) (greedyWriting (h .pool) cards .cycles) ≡ Valid (record { 0 = greedyWriting (h .pool) cards .T }) 0
+      h .mode ≡ modeSave → checkOf (parse t) (greedyWriting (h .pool) cards .cycles) ≡ Valid (record { 0 = greedyWriting (h .pool) cards .T }) 0
   own-save-valid = accepts.own-save t h cards e
 
 -- The starred verdicts of document 01 hold of a call that is given the ticket and the plan, and so do the table's other verdicts.

@@ -11,12 +11,12 @@ use native.Mathlib.Decide.{decLe, decLt, ℕ-discrete}
 use lib.Dec.{leb, ltb}
 use lib.ListN.{length}
 use borrow.Author.Tests.{lt-ltb, le-ltb, lt-leb, le-leb, ltb-true, leb-true}
-use Rattle.schedule.specs.Count.{bit, howMany, tabulate, largest}
+use Rattle.counting.specs.Count.{bit, howMany, tabulate, largest}
 use Rattle.schedule.specs.Schedule.{cycleOf, oBacklog, iBacklog}
 use Rattle.schedule.specs.Closed.{readBefore}
-use Rattle.schedule.proofs.Bits.{and-left, and-right, bit-mono}
-use Rattle.schedule.proofs.Sums.{sum-cong, sum-add, sum-one, sum-mono, sum-longer}
-use Rattle.schedule.proofs.Lists.{getD-tabulate, le-largest, largest-snoc}
+use Rattle.counting.proofs.Bits.{and-left, and-right, bit-mono}
+use Rattle.counting.proofs.Sums.{sum-cong, sum-add, sum-one, sum-mono, sum-longer}
+use Rattle.counting.proofs.Lists.{getD-tabulate, le-largest, largest-snoc}
 use Rattle.checker.specs.Parts.{cyclesBefore}
 
 -- the largest of one value more

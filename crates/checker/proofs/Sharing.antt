@@ -9,11 +9,12 @@ use native.Mathlib.Omega.{arith}
 use native.Mathlib.Numerals.{add-one}
 use lib.Dec.{eqb}
 use borrow.Author.Tests.{eq-eqb, ne-eqb, lt-ltb, le-ltb}
-use Rattle.schedule.specs.Count.{bit, howMany}
-use Rattle.schedule.specs.Schedule.{cardOf, cycleOf, oBacklog}
+use Rattle.counting.specs.Count.{bit, howMany}
+use Rattle.counting.specs.Frames.{cardOf}
+use Rattle.schedule.specs.Schedule.{cycleOf, oBacklog}
 use Rattle.schedule.specs.Verdict.{shares}
-use Rattle.schedule.proofs.Bits.{bit-and-off}
-use Rattle.schedule.proofs.Sums.{sum-term-le}
+use Rattle.counting.proofs.Bits.{bit-and-off}
+use Rattle.counting.proofs.Sums.{sum-term-le}
 use Rattle.schedule.proofs.Exact.{apart-alone}
 use Rattle.checker.specs.Parts.{NoneAfter}
 

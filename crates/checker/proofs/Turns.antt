@@ -9,11 +9,11 @@ use native.Mathlib.Decide.{decLt, ℕ-discrete}
 use lib.Dec.{leb, ltb}
 use lib.ListN.{length, getD}
 use borrow.Author.Tests.{lt-ltb, le-ltb, lt-leb, le-leb}
-use Rattle.schedule.specs.Count.{bit, tabulate, largest}
+use Rattle.counting.specs.Count.{bit, tabulate, largest}
 use Rattle.schedule.specs.Schedule.{cycleOf, oBacklog, iBacklog}
 use Rattle.schedule.specs.Closed.{readBefore}
 use Rattle.header.specs.Limits.{maxFrames}
-use Rattle.schedule.proofs.Sums.{sum-cong}
+use Rattle.counting.proofs.Sums.{sum-cong}
 use Rattle.checker.specs.Parts.{laterUpTo, cyclesBefore, Table, Bounds, mostOf}
 use Rattle.checker.proofs.Most.{most-next, among, backlog-covered, before-covered, save-covered, backlog-ahead, before-ahead, save-behind}
 

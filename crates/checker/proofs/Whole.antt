@@ -14,8 +14,8 @@ use Rattle.schedule.specs.Dock.{emptyDock}
 use Rattle.schedule.specs.Drive.{peak, stepsOf}
 use Rattle.schedule.specs.Verdict.{verdictOnRead, verdictOnSave}
 use Rattle.schedule.specs.Closed.{readBefore}
-use Rattle.schedule.proofs.Lists.{getD-zeros, le-largest}
-use Rattle.schedule.proofs.Bits.{by-cases}
+use Rattle.counting.proofs.Lists.{getD-zeros, le-largest}
+use Rattle.counting.proofs.Bits.{by-cases}
 use Rattle.schedule.proofs.Peak.{peak-closed}
 use Rattle.schedule.proofs.Exact.{valid-correct, otherwise}
 use Rattle.header.specs.Limits.{maxFrames}

@@ -2,7 +2,7 @@
 -- what `check` answers. proofs/Cases.antt proves them by computing.
 -- Assumes nothing.
 use Rattle.schedule.specs.Cases.{Answer, Case, _gives_, plan, dock, most, verdict, readPlan, savePlan, keepPlan, drive, peakOf, checkRead, checkSave}
-use Rattle.header.specs.Limits.{read, save}
+use Rattle.header.specs.Limits.{modeRead, modeSave}
 use Rattle.ticket.specs.Ticket.{parse}
 use Rattle.ticket.specs.Print.{ticketFor}
 use Rattle.checker.specs.Check.{answerOf, checkOf}
@@ -23,5 +23,5 @@ asked (savePlan m cards gives a) = told a
 asked (keepPlan m cards gives a) = told a
 asked (drive m cards steps gives a) = told a
 asked (peakOf m cards steps gives a) = told a
-asked (checkRead m cards cycles gives a) = checkOf (parse (ticketFor read m cards)) cycles
-asked (checkSave m cards cycles gives a) = checkOf (parse (ticketFor save m cards)) cycles
+asked (checkRead m cards cycles gives a) = checkOf (parse (ticketFor modeRead m cards)) cycles
+asked (checkSave m cards cycles gives a) = checkOf (parse (ticketFor modeSave m cards)) cycles

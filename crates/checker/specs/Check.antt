@@ -8,7 +8,7 @@ use lib.Dec.{eqb}
 use lib.ListN.{length}
 use Rattle.schedule.specs.Verdict.{Fault, noCycle, sharedCard, overfull, valid, faulty, verdictOnRead, verdictOnSave}
 use Rattle.schedule.specs.Verdict as theory
-use Rattle.header.specs.Limits.{save, saveAndKeep}
+use Rattle.header.specs.Limits.{modeSave, modeSaveAndKeep}
 use Rattle.ticket.specs.Ticket.{Parsed, accepted, refused}
 use Rattle.checker.specs.declared.Verdict.{Verdict}
 use Rattle.checker.specs.declared.Verdict.the-variants.{Valid, NoCycle, SharedCard, Overfull, Refused}
@@ -31,6 +31,6 @@ verdictOn false m cards cycles = verdictOnRead m cards cycles
 -- "1 to 9, then 12 before 11": the ticket's own refusals, mode 02, and a plan that has not exactly L cycles
 unfoldable pub checkOf : Parsed → List ℕ → Verdict
 checkOf (accepted h cards) cycles =
-    cond (eqb (h .mode) saveAndKeep) (Refused 12)
-    (cond (eqb (length cycles) (length cards)) (answerOf (verdictOn (eqb (h .mode) save) (h .pool) cards cycles)) (Refused 11))
+    cond (eqb (h .mode) modeSaveAndKeep) (Refused 12)
+    (cond (eqb (length cycles) (length cards)) (answerOf (verdictOn (eqb (h .mode) modeSave) (h .pool) cards cycles)) (Refused 11))
 checkOf (refused k) cycles = Refused k

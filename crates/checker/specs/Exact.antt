@@ -7,7 +7,7 @@ use mathlib.Core.Path.{_≡_}
 use mathlib.Core.List.{List}
 use Rattle.schedule.specs.Schedule.{oBacklog, iBacklog, CorrectSave, CorrectRead}
 use Rattle.schedule.specs.Verdict.{Fault, Named}
-use Rattle.header.specs.Limits.{read, save}
+use Rattle.header.specs.Limits.{modeRead, modeSave}
 use Rattle.header.specs.declared.Header.{Header}
 use Rattle.ticket.specs.Ticket.{accepted, parse}
 use Rattle.checker.specs.Numbers.{validNumber, faultNumber}
@@ -16,17 +16,17 @@ use Rattle.checker.specs.Numbers.{validNumber, faultNumber}
 pub record Exact (text cycles : List ℕ) (verdict position : ℕ) : Type 0 where
   -- a read ticket: the plan is called valid just when it is a correct read schedule
   pub read-plan :
-      (h : Header) (cards : List ℕ) → parse text ≡ accepted h cards → h .mode ≡ read
+      (h : Header) (cards : List ℕ) → parse text ≡ accepted h cards → h .mode ≡ modeRead
       → (verdict ≡ validNumber → CorrectRead (h .pool) cards cycles) × (CorrectRead (h .pool) cards cycles → verdict ≡ validNumber)
   -- and where a fault is named, the position is the lowest at fault and the fault the first of its own
   pub read-fault :
-      (h : Header) (cards : List ℕ) → parse text ≡ accepted h cards → h .mode ≡ read
+      (h : Header) (cards : List ℕ) → parse text ≡ accepted h cards → h .mode ≡ modeRead
       → (f : Fault) → verdict ≡ faultNumber f → Named iBacklog (h .pool) cards cycles position f
   -- a save ticket: the plan is called valid just when it is a correct save schedule
   pub save-plan :
-      (h : Header) (cards : List ℕ) → parse text ≡ accepted h cards → h .mode ≡ save
+      (h : Header) (cards : List ℕ) → parse text ≡ accepted h cards → h .mode ≡ modeSave
       → (verdict ≡ validNumber → CorrectSave (h .pool) cards cycles) × (CorrectSave (h .pool) cards cycles → verdict ≡ validNumber)
   -- and where a fault is named, the same
   pub save-fault :
-      (h : Header) (cards : List ℕ) → parse text ≡ accepted h cards → h .mode ≡ save
+      (h : Header) (cards : List ℕ) → parse text ≡ accepted h cards → h .mode ≡ modeSave
       → (f : Fault) → verdict ≡ faultNumber f → Named oBacklog (h .pool) cards cycles position f

@@ -2,8 +2,8 @@
 -- Assumes nothing.
 use Prim.Native.Nat.{ℕ}
 use Rattle.schedule.specs.Verdict.{Fault, noCycle, sharedCard, overfull}
-use Rattle.schedule.specs.declared.Cycle.{Cycle}
-use Rattle.schedule.specs.declared.Position.{Position}
+use Rattle.counting.specs.declared.Cycle.{Cycle}
+use Rattle.counting.specs.declared.Position.{Position}
 use Rattle.checker.specs.declared.Verdict.{Verdict}
 use Rattle.checker.specs.declared.Verdict.the-variants.{Valid, NoCycle, SharedCard, Overfull, Refused}
 

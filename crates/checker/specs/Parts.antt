@@ -6,8 +6,9 @@ use mathlib.Core.Bool.{Bool, true, false, _&&_, cond}
 use mathlib.Core.List.{List}
 use lib.Dec.{eqb, leb, ltb}
 use lib.ListN.{length, getD}
-use Rattle.schedule.specs.Count.{howMany, tabulate, largest}
-use Rattle.schedule.specs.Schedule.{cardOf, cycleOf, oBacklog, iBacklog}
+use Rattle.counting.specs.Count.{howMany, tabulate, largest}
+use Rattle.counting.specs.Frames.{cardOf}
+use Rattle.schedule.specs.Schedule.{cycleOf, oBacklog, iBacklog}
 use Rattle.schedule.specs.Verdict.{valid, judge, judgeFrom}
 use Rattle.header.specs.Limits.{maxCards, maxFrames}
 use Rattle.checker.specs.Check.{answerOf}

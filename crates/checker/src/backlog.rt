@@ -5,7 +5,7 @@ ghost use lib.ListN.{length};
 ghost use Rattle.schedule.specs.Schedule.{oBacklog, iBacklog};
 ghost use Rattle.header.specs.Limits.{maxFrames};
 ghost use Rattle.checker.specs.Parts.{laterUpTo, backlogOf};
-use schedule::Cycle;
+use counting::Cycle;
 
 // How many frames after frame i have a cycle up to `cycle`.
 pub(crate) fn later_up_to(plan: &[u16], i: usize, cycle: Cycle) -> u16

@@ -6,13 +6,7 @@ ghost use Rattle.schedule.specs.Schedule.{oBacklog, iBacklog};
 ghost use Rattle.schedule.specs.Closed.{readBefore};
 ghost use Rattle.header.specs.Limits.{maxFrames};
 ghost use Rattle.checker.specs.Parts.{Zeroed, Low, Tallied, Table, Bounds, mostOf};
-use schedule::Cycle;
-
-fn place_of(cycle: Cycle) -> usize
-    ensures { λ r. ⌜ r ≡ cycle .0 ⌝ }
-{
-    cycle.0 as usize
-}
+use counting::Cycle;
 
 // Counts the frames of each cycle, one place further on.
 fn tally(plan: &[u16], table: &mut [u16])
@@ -23,7 +17,7 @@ fn tally(plan: &[u16], table: &mut [u16])
     let mut i: usize = 0;
     while i < n {
         let cycle = plan[i];
-        let c = place_of(Cycle(cycle)) + 1;
+        let c = counting::cycle_index(Cycle(cycle)) + 1;
         table[c] = table[c] + 1;
         i += 1;
     }
@@ -34,7 +28,7 @@ fn add_up(plan: &[u16], top: Cycle, table: &mut [u16])
     requires { ⌜ Tallied (now plan) (now table) × Low (now plan) (top .0) ⌝ }
     ensures { λ r. ⌜ Table (now (plan .entry)) (now (table .exit)) (top .0) ⌝ }
 {
-    let n = place_of(top) + 2;
+    let n = counting::cycle_index(top) + 2;
     let mut sum: u16 = 0;
     let mut c: usize = 0;
     while c < n {
@@ -71,13 +65,13 @@ pub(crate) fn most_of_read(plan: &[u16], top: Cycle, table: &[u16]) -> Most
     let mut i: usize = 0;
     while i < n {
         let cycle = plan[i];
-        let c = place_of(Cycle(cycle));
+        let c = counting::cycle_index(Cycle(cycle));
         let at = i as u16;
         i += 1;
         if ceiling <= c {
             ceiling = c + 1;
-            backlog = schedule::larger(backlog, table[c + 1] - at - 1);
-            before = schedule::larger(before, table[c] - at);
+            backlog = counting::larger(backlog, table[c + 1] - at - 1);
+            before = counting::larger(before, table[c] - at);
         }
     }
     Most {
@@ -97,10 +91,10 @@ pub(crate) fn most_of_save(plan: &[u16], top: Cycle, table: &[u16]) -> u16
     while 0 < i {
         i -= 1;
         let cycle = plan[i];
-        let c = place_of(Cycle(cycle));
+        let c = counting::cycle_index(Cycle(cycle));
         if c < floor {
             floor = c;
-            most = schedule::larger(most, (i as u16) - table[c]);
+            most = counting::larger(most, (i as u16) - table[c]);
         }
     }
     most

@@ -9,14 +9,8 @@ ghost use Rattle.schedule.specs.Verdict.{shares};
 ghost use Rattle.checker.specs.Parts.{Checking, NoneAfter, Roomy, backlogOf, isValid, frameVerdict, firstFault};
 use crate::Verdict;
 use crate::backlog;
-use schedule::Cycle;
-use schedule::Position;
-
-fn card_place(card: u8) -> usize
-    ensures { λ r. ⌜ r ≡ card ⌝ }
-{
-    card as usize
-}
+use counting::Cycle;
+use counting::Position;
 
 // Whether an earlier frame of the same card has frame i's cycle.
 fn shared(cards: &[u8], plan: &[u16], i: usize) -> bool
@@ -109,9 +103,9 @@ pub(crate) fn first_fault(save: bool, roomy: bool, cards: &[u8], plan: &[u16], m
     let n = cards.len();
     let mut i: usize = 0;
     while i < n {
-        let c = card_place(cards[i]);
+        let c = counting::card_index(cards[i]);
         let late = latest[c];
-        latest[c] = schedule::larger(late, plan[i]);
+        latest[c] = counting::larger(late, plan[i]);
         let v = frame(save, roomy, cards, plan, m, i, Cycle(late));
         i += 1;
         if !is_valid(v) {

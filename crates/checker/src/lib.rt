@@ -15,8 +15,8 @@ mod verdicts;
 
 use header::Header;
 use header::limits;
-use schedule::Cycle;
-use schedule::Position;
+use counting::Cycle;
+use counting::Position;
 
 // A valid plan has T and, for a read, the peak of its run on a dock with a buffer for every frame. Otherwise the lowest position at fault
 // is named with the first of its faults; or the call is refused.
@@ -33,14 +33,14 @@ fn check_list(h: Header, card: &[u8], plan: &[u16]) -> Verdict
     requires { ⌜ Fits h (take (h .frames) (now card)) ⌝ }
     ensures { λ r. ⌜ r ≡ checkOf (accepted h (take (h .frames) (now (card .entry)))) (now (plan .entry)) ⌝ }
 {
-    if h.mode == limits::SAVE_AND_KEEP {
+    if h.mode == limits::MODE_SAVE_AND_KEEP {
         return Verdict::Refused(12);
     }
     let n = h.frames as usize;
     if plan.len() != n {
         return Verdict::Refused(11);
     }
-    verdicts::judge(h.mode == limits::SAVE, &card[..n], plan, h.pool)
+    verdicts::verdict(h.mode == limits::MODE_SAVE, &card[..n], plan, h.pool)
 }
 
 // Checks a plan for a ticket. `exact` is demand 2's last sentence, that a plan is called valid exactly when it meets the paper's conditions,

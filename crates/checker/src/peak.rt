@@ -7,7 +7,7 @@ ghost use Rattle.schedule.specs.Closed.{readBefore};
 ghost use Rattle.header.specs.Limits.{maxFrames};
 ghost use Rattle.checker.specs.Parts.{mostOf};
 use crate::backlog;
-use schedule::Cycle;
+use counting::Cycle;
 
 // The most frames that are read before an earlier one.
 pub(crate) fn counted(plan: &[u16]) -> u16
@@ -19,7 +19,7 @@ pub(crate) fn counted(plan: &[u16]) -> u16
     let mut i: usize = 0;
     while i < n {
         let one_before = plan[i] - 1;
-        most = schedule::larger(most, backlog::later_up_to(plan, i, Cycle(one_before)));
+        most = counting::larger(most, backlog::later_up_to(plan, i, Cycle(one_before)));
         i += 1;
     }
     most

@@ -11,7 +11,7 @@ use crate::below;
 use crate::frames;
 use crate::peak;
 use header::limits;
-use schedule::Cycle;
+use counting::Cycle;
 
 // A valid verdict gets its T and peak; a fault stays.
 fn complete(v: Verdict, top: Cycle, peak: u16) -> Verdict
@@ -25,7 +25,7 @@ fn complete(v: Verdict, top: Cycle, peak: u16) -> Verdict
 }
 
 // A plan whose cycles are up to 4,096: the pool rule and the peak from a table.
-fn judge_read(cards: &[u8], plan: &[u16], m: u16, top: Cycle) -> Verdict
+fn verdict_on_read(cards: &[u8], plan: &[u16], m: u16, top: Cycle) -> Verdict
     requires { ⌜ Checking (now cards) (now plan) × (top .0 ≡ cyclesIn (now plan)) × (top .0 ≤ maxFrames) ⌝ }
     ensures { λ r. ⌜ r ≡ answerOf (verdictOn false m (now (cards .entry)) (now (plan .entry))) ⌝ }
 {
@@ -36,7 +36,7 @@ fn judge_read(cards: &[u8], plan: &[u16], m: u16, top: Cycle) -> Verdict
     complete(v, top, most.before)
 }
 
-fn judge_save(cards: &[u8], plan: &[u16], m: u16, top: Cycle) -> Verdict
+fn verdict_on_save(cards: &[u8], plan: &[u16], m: u16, top: Cycle) -> Verdict
     requires { ⌜ Checking (now cards) (now plan) × (top .0 ≡ cyclesIn (now plan)) × (top .0 ≤ maxFrames) ⌝ }
     ensures { λ r. ⌜ r ≡ answerOf (verdictOn true m (now (cards .entry)) (now (plan .entry))) ⌝ }
 {
@@ -48,7 +48,7 @@ fn judge_save(cards: &[u8], plan: &[u16], m: u16, top: Cycle) -> Verdict
 }
 
 // A plan with larger cycles: every pool is counted.
-fn judge_large(save: bool, cards: &[u8], plan: &[u16], m: u16, top: Cycle) -> Verdict
+fn verdict_on_late(save: bool, cards: &[u8], plan: &[u16], m: u16, top: Cycle) -> Verdict
     requires { ⌜ Checking (now cards) (now plan) × (top .0 ≡ cyclesIn (now plan)) ⌝ }
     ensures { λ r. ⌜ r ≡ answerOf (verdictOn save m (now (cards .entry)) (now (plan .entry))) ⌝ }
 {
@@ -62,16 +62,16 @@ fn judge_large(save: bool, cards: &[u8], plan: &[u16], m: u16, top: Cycle) -> Ve
     Verdict::Valid(top, peak::counted(plan))
 }
 
-pub(crate) fn judge(save: bool, cards: &[u8], plan: &[u16], m: u16) -> Verdict
+pub(crate) fn verdict(save: bool, cards: &[u8], plan: &[u16], m: u16) -> Verdict
     requires { ⌜ Checking (now cards) (now plan) ⌝ }
     ensures { λ r. ⌜ r ≡ answerOf (verdictOn save m (now (cards .entry)) (now (plan .entry))) ⌝ }
 {
     let top = schedule::cycles_in(plan);
     if limits::MAX_FRAMES < top.0 {
-        return judge_large(save, cards, plan, m, top);
+        return verdict_on_late(save, cards, plan, m, top);
     }
     if save {
-        return judge_save(cards, plan, m, top);
+        return verdict_on_save(cards, plan, m, top);
     }
-    judge_read(cards, plan, m, top)
+    verdict_on_read(cards, plan, m, top)
 }

@@ -9,7 +9,7 @@ use borrow.Author.Tests.{lt-ltb, le-ltb}
 use Rattle.schedule.specs.Dock.{emptyDock, run, Dock as ModelDock, Step as ModelStep}
 use Rattle.schedule.specs.Dock as model
 use Rattle.schedule.proofs.Outcome.{run-append}
-use Rattle.dock.specs.State.{Shows, stepOf}
+use Rattle.dock.specs.State.{ShowsDock, stepOf}
 use Rattle.dock.specs.Drive.{recordAfter, bytesAfter, driveOf, memoryDriven, Follows, Driving, begin, next}
 use Rattle.dock.specs.Parts.{Advanced}
 use Rattle.dock.specs.declared.Dock.{Dock}
@@ -30,9 +30,9 @@ module _ (dock : Dock) (memory : List ℕ) (step : Step) where
   long-answer l = rw (le-ltb (length memory) (dock .frames) l) (refl, refl)
 
   -- what `drive` answers follows the model
-  driven-shows : (m : ℕ) (cards : List ℕ) (d : ModelDock) → Shows m cards d dock memory
+  driven-shows : (m : ℕ) (cards : List ℕ) (d : ModelDock) → ShowsDock m cards d dock memory
       → (driveOf dock memory step .refusal ≡ 0)
-      × Shows m cards (model.step m cards (stepOf step) d) (driveOf dock memory step .dock) (memoryDriven dock memory step)
+      × ShowsDock m cards (model.step m cards (stepOf step) d) (driveOf dock memory step .dock) (memoryDriven dock memory step)
   driven-shows m cards d s =
       let long = long-answer (omega (arith, s .frames, s .room)) in
       rw (long .0, long .1) (refl, step-shows s step)
@@ -54,7 +54,7 @@ module _ (dock : Dock) (memory : List ℕ) (step : Step) where
       contract _ _ (rw (long .0, a .dock-is)) (rw (long .1) (a .memory-is))
 
 pub driving-shows : (m : ℕ) (cards : List ℕ) (steps : List ModelStep) (dock : Dock) (memory : List ℕ)
-    → Driving m cards steps dock memory → Shows m cards (run m cards steps emptyDock) dock memory
+    → Driving m cards steps dock memory → ShowsDock m cards (run m cards steps emptyDock) dock memory
 unfolding run
 driving-shows m cards steps dock memory (begin _ _ s) = s
 driving-shows m cards steps dock memory (next earlier d before a v) =

@@ -9,12 +9,12 @@ use lib.ListN.{length, getD, set, length-set}
 use lib.Seq.{getD-set-same, getD-set-other}
 use borrow.Author.Tests.{le-leb, leb-true, lt-ltb}
 use lib.Dec.{ltb}
-use Rattle.schedule.specs.Count.{bit}
-use Rattle.schedule.specs.Schedule.{cardOf}
+use Rattle.counting.specs.Count.{bit}
+use Rattle.counting.specs.Frames.{cardOf}
 use Rattle.schedule.specs.Dock.{dropFrame, against, perform, Dock as ModelDock}
-use Rattle.schedule.specs.declared.Position.{Position}
-use Rattle.schedule.proofs.Bits.{by-cases, and-left}
-use Rattle.dock.specs.State.{Shows}
+use Rattle.counting.specs.declared.Position.{Position}
+use Rattle.counting.proofs.Bits.{by-cases, and-left}
+use Rattle.dock.specs.State.{ShowsDock}
 use Rattle.dock.specs.Records.{nowHolding}
 use Rattle.dock.specs.Drive.{isHeld, freesBuffer, againstRules, recordMade, bytesMade}
 use Rattle.dock.specs.declared.Dock.{Dock}
@@ -22,7 +22,7 @@ use Rattle.dock.specs.declared.Step.the-variants.{Drop}
 use Rattle.dock.proofs.Counting.{some-counted}
 use Rattle.dock.proofs.Frames.{in-list, byte-held, put-holds, put-marks, put-ahead}
 
-module _ {m : ℕ} {cards : List ℕ} {d : ModelDock} {dock : Dock} {memory : List ℕ} (s : Shows m cards d dock memory) (p : Position) where
+module _ {m : ℕ} {cards : List ℕ} {d : ModelDock} {dock : Dock} {memory : List ℕ} (s : ShowsDock m cards d dock memory) (p : Position) where
   abbrev i : ℕ
   i = p .0
 
@@ -35,7 +35,7 @@ module _ {m : ℕ} {cards : List ℕ} {d : ModelDock} {dock : Dock} {memory : Li
   module _ (unbroken : dock .broken ≡ false) (l : i < dock .frames) where
     -- the frame is not held now; h frames are
     dropped : (h : ℕ) (after : List ℕ) → length after ≡ length memory → h + bit (d .held i) ≡ dock .holding → getD after i 0 ≡ cardOf cards i
-        → ((j : ℕ) → (j ≡ i → ⊥) → getD after j 0 ≡ getD memory j 0) → Shows m cards (perform cards (dropFrame i) d) (nowHolding dock h) after
+        → ((j : ℕ) → (j ≡ i → ⊥) → getD after j 0 ≡ getD memory j 0) → ShowsDock m cards (perform cards (dropFrame i) d) (nowHolding dock h) after
     dropped h after e count here others =
         record {
           frames = s .frames;
@@ -55,7 +55,7 @@ module _ {m : ℕ} {cards : List ℕ} {d : ModelDock} {dock : Dock} {memory : Li
           ahead = put-ahead s i l false (λ e. absurd (false≢true e));
         }
 
-    not-held : d .held i ≡ false → Shows m cards (perform cards (dropFrame i) d) dock memory
+    not-held : d .held i ≡ false → ShowsDock m cards (perform cards (dropFrame i) d) dock memory
     not-held f =
         let e : b ≡ cardOf cards i = s .marks i (in-list s i l) ∙ rw f (omega arith) in
         dropped (dock .holding) memory refl (rw f (omega arith)) e (λ j q. refl)
@@ -64,7 +64,7 @@ module _ {m : ℕ} {cards : List ℕ} {d : ModelDock} {dock : Dock} {memory : Li
     counted : d .held i ≡ true → 1 ≤ dock .holding
     counted t = omega (arith, s .holds, some-counted (length cards) i (d .held) (in-list s i l) t)
 
-    held : d .held i ≡ true → Shows m cards (perform cards (dropFrame i) d) (nowHolding dock (dock .holding - 1)) (set memory i (b - 128))
+    held : d .held i ≡ true → ShowsDock m cards (perform cards (dropFrame i) d) (nowHolding dock (dock .holding - 1)) (set memory i (b - 128))
     held t =
         let e : b ≡ cardOf cards i + 128 = s .marks i (in-list s i l) ∙ rw t in
         dropped (dock .holding - 1) (set memory i (b - 128)) (length-set memory i (b - 128)) (rw t (omega (arith, counted t)))
@@ -74,7 +74,7 @@ module _ {m : ℕ} {cards : List ℕ} {d : ModelDock} {dock : Dock} {memory : Li
     frees : d .held i ≡ true → freesBuffer dock b ≡ true
     frees t = rw (byte-held s i l, t) (lt-ltb 0 (dock .holding) (counted t))
 
-    pub drop-shows : Shows m cards (perform cards (dropFrame i) d) (recordMade dock memory (Drop p)) (bytesMade dock memory (Drop p))
+    pub drop-shows : ShowsDock m cards (perform cards (dropFrame i) d) (recordMade dock memory (Drop p)) (bytesMade dock memory (Drop p))
     drop-shows =
         by-cases (freesBuffer dock b)
         (λ e. rw e (held (sym (byte-held s i l) ∙ and-left (isHeld b) (ltb 0 (dock .holding)) e)))

@@ -9,14 +9,14 @@ use native.Mathlib.Decide.{decLt}
 use lib.Dec.{leb}
 use lib.ListN.{length, getD, replicate, length-replicate, getD-replicate}
 use borrow.Author.Tests.{le-leb, lt-leb, leb-true}
-use Rattle.schedule.specs.Count.{howMany}
-use Rattle.schedule.specs.Schedule.{cardOf}
+use Rattle.counting.specs.Count.{howMany}
+use Rattle.counting.specs.Frames.{cardOf}
 use Rattle.schedule.specs.Dock.{endCycle, deliver, against, perform, Dock as ModelDock}
-use Rattle.schedule.proofs.Bits.{by-cases, and-right}
-use Rattle.schedule.proofs.Lists.{length-tabulate}
+use Rattle.counting.proofs.Bits.{by-cases, and-right}
+use Rattle.counting.proofs.Lists.{length-tabulate}
 use Rattle.schedule.proofs.Deliver.{deliver-within, deliver-from, deliver-held}
 use Rattle.header.specs.Limits.{maxCards}
-use Rattle.dock.specs.State.{Shows, mark}
+use Rattle.dock.specs.State.{ShowsDock, mark}
 use Rattle.dock.specs.Drive.{heldIn, handedOver, freed, againstRules, recordMade, bytesMade}
 use Rattle.dock.specs.declared.Dock.{Dock}
 use Rattle.dock.specs.declared.Step.the-variants.{End}
@@ -30,7 +30,7 @@ deliver-cong f g zero n h = refl
 deliver-cong f g (suc k) n h =
     rw (h n (omega arith)) (ap (λ x. cond (g n) x n) (deliver-cong f g k (suc n) (λ i l. h i (omega arith))))
 
-module _ {m : ℕ} {cards : List ℕ} {d : ModelDock} {dock : Dock} {memory : List ℕ} (s : Shows m cards d dock memory) where
+module _ {m : ℕ} {cards : List ℕ} {d : ModelDock} {dock : Dock} {memory : List ℕ} (s : ShowsDock m cards d dock memory) where
   pub end-rule : againstRules dock memory End ≡ against m cards endCycle d
   end-rule = rw (s .pool, s .holds)
 
@@ -84,7 +84,7 @@ module _ {m : ℕ} {cards : List ℕ} {d : ModelDock} {dock : Dock} {memory : Li
             rw (le-leb N i k, and-true (d .held i)) (freed-behind (dock .delivered) n memory i room (omega (arith, handed)) ∙ s .marks i g))
       ]
 
-  pub end-shows : Shows m cards (perform cards endCycle d) (recordMade dock memory End) (bytesMade dock memory End)
+  pub end-shows : ShowsDock m cards (perform cards endCycle d) (recordMade dock memory End) (bytesMade dock memory End)
   end-shows =
       record {
         frames = s .frames;

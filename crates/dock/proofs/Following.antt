@@ -9,8 +9,8 @@ use lib.ListN.{getD}
 use borrow.Author.Tests.{leb-false}
 use Rattle.schedule.specs.Dock.{breakOff, against, perform, Dock as ModelDock}
 use Rattle.schedule.specs.Dock as model
-use Rattle.schedule.proofs.Bits.{or-neither}
-use Rattle.dock.specs.State.{Shows, stepOf}
+use Rattle.counting.proofs.Bits.{or-neither}
+use Rattle.dock.specs.State.{ShowsDock, stepOf}
 use Rattle.dock.specs.Records.{brokenOff}
 use Rattle.dock.specs.Drive.{cardIn, againstRules, recordMade, bytesMade, recordAfter, bytesAfter}
 use Rattle.dock.specs.declared.Dock.{Dock}
@@ -33,7 +33,7 @@ by-three P true y e f p q r = rw e (p refl)
 by-three P false true e f p q r = rw (e, f) (q refl refl)
 by-three P false false e f p q r = rw (e, f) (r refl refl)
 
-module _ {m : ℕ} {cards : List ℕ} {d : ModelDock} {dock : Dock} {memory : List ℕ} (s : Shows m cards d dock memory) where
+module _ {m : ℕ} {cards : List ℕ} {d : ModelDock} {dock : Dock} {memory : List ℕ} (s : ShowsDock m cards d dock memory) where
   same-rule : (a : Step) → againstRules dock memory a ≡ against m cards (stepOf a) d
   same-rule (Read p) = read-rule s p
   same-rule (Drop p) = drop-rule s p
@@ -41,7 +41,7 @@ module _ {m : ℕ} {cards : List ℕ} {d : ModelDock} {dock : Dock} {memory : Li
 
   -- a step within the rules
   made-shows : (a : Step) → dock .broken ≡ false → againstRules dock memory a ≡ false
-      → Shows m cards (perform cards (stepOf a) d) (recordMade dock memory a) (bytesMade dock memory a)
+      → ShowsDock m cards (perform cards (stepOf a) d) (recordMade dock memory a) (bytesMade dock memory a)
   made-shows (Read p) unbroken e =
       let busy : Bool = getD (dock .busy) (cardIn (getD memory (p .0) 0)) false in
       read-shows s p unbroken (leb-false (dock .frames) (p .0) (not-first (leb (dock .frames) (p .0)) busy e))
@@ -49,7 +49,7 @@ module _ {m : ℕ} {cards : List ℕ} {d : ModelDock} {dock : Dock} {memory : Li
       drop-shows s p unbroken (leb-false (dock .frames) (p .0) (not-first (leb (dock .frames) (p .0)) (dock .reading) e))
   made-shows End unbroken e = end-shows s
 
-  broken-shows : Shows m cards (breakOff d) (brokenOff dock) memory
+  broken-shows : ShowsDock m cards (breakOff d) (brokenOff dock) memory
   broken-shows =
       record {
         frames = s .frames;
@@ -69,8 +69,8 @@ module _ {m : ℕ} {cards : List ℕ} {d : ModelDock} {dock : Dock} {memory : Li
         ahead = s .ahead;
       }
 
-  pub step-shows : (a : Step) → Shows m cards (model.step m cards (stepOf a) d) (recordAfter dock memory a) (bytesAfter dock memory a)
+  pub step-shows : (a : Step) → ShowsDock m cards (model.step m cards (stepOf a) d) (recordAfter dock memory a) (bytesAfter dock memory a)
   unfolding recordAfter bytesAfter
   step-shows a =
-      by-three (Shows m cards) (dock .broken) (againstRules dock memory a) (sym (s .broken)) (sym (same-rule a)) (λ b. s)
+      by-three (ShowsDock m cards) (dock .broken) (againstRules dock memory a) (sym (s .broken)) (sym (same-rule a)) (λ b. s)
       (λ b e. broken-shows) (made-shows a)

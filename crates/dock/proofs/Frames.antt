@@ -8,16 +8,16 @@ use native.Mathlib.Omega.{arith}
 use native.Mathlib.Decide.{ℕ-discrete}
 use lib.ListN.{length, getD}
 use borrow.Author.Tests.{eq-eqb, ne-eqb}
-use Rattle.schedule.specs.Count.{bit, howMany}
-use Rattle.schedule.specs.Schedule.{cardOf}
+use Rattle.counting.specs.Count.{bit, howMany}
+use Rattle.counting.specs.Frames.{cardOf}
 use Rattle.schedule.specs.Dock.{isIn, put, Dock as ModelDock}
-use Rattle.dock.specs.State.{Shows, mark}
+use Rattle.dock.specs.State.{ShowsDock, mark}
 use Rattle.dock.specs.Drive.{isHeld}
 use Rattle.dock.specs.declared.Dock.{Dock}
 use Rattle.dock.proofs.Counting.{put-count}
 use Rattle.dock.proofs.Marks.{mark-card, mark-held}
 
-module _ {m : ℕ} {cards : List ℕ} {d : ModelDock} {dock : Dock} {memory : List ℕ} (s : Shows m cards d dock memory) (i : ℕ) (l : i < dock .frames) where
+module _ {m : ℕ} {cards : List ℕ} {d : ModelDock} {dock : Dock} {memory : List ℕ} (s : ShowsDock m cards d dock memory) (i : ℕ) (l : i < dock .frames) where
   pub in-list : i < length cards
   in-list = omega (arith, s .frames)
 

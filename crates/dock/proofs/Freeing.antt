@@ -10,7 +10,7 @@ use lib.Dec.{leb, ltb}
 use lib.ListN.{length, getD}
 use lib.Seq.{ext-getD}
 use borrow.Author.Tests.{le-leb, lt-leb, lt-ltb, le-ltb}
-use Rattle.schedule.proofs.Lists.{length-tabulate, getD-tabulate}
+use Rattle.counting.proofs.Lists.{length-tabulate, getD-tabulate}
 use Rattle.dock.specs.Drive.{freed}
 use Rattle.dock.specs.Parts.{Freed}
 

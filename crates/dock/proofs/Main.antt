@@ -9,7 +9,7 @@ use Rattle.schedule.specs.Dock.{emptyDock, run, Step as ModelStep}
 use Rattle.header.specs.declared.Header.{Header}
 use Rattle.ticket.specs.Ticket.{accepted, parse}
 use Rattle.ticket.specs.Grounds.{Fits}
-use Rattle.dock.specs.State.{Shows, newDock, startOf, memoryStarted}
+use Rattle.dock.specs.State.{ShowsDock, newDock, startOf, memoryStarted}
 use Rattle.dock.specs.Drive.{memoryDriven, Driving}
 use Rattle.dock.specs.declared.Dock.{Dock}
 use Rattle.dock.specs.declared.Driven.{Driven}
@@ -20,18 +20,18 @@ use Rattle.dock.proofs.Past as past
 
 -- A started dock shows the empty dock of the model.
 pub start-shows : (h : Header) (cards before : List ℕ) → Fits h cards → length cards ≤ length before
-    → Shows (h .pool) cards emptyDock (newDock (h .pool) (length cards)) (cards ++ drop (length cards) before)
+    → ShowsDock (h .pool) cards emptyDock (newDock (h .pool) (length cards)) (cards ++ drop (length cards) before)
 start-shows = starting.start-shows
 
 -- So does what `start` answers to an accepted ticket, with memory for its list.
 pub started-shows : (t before : List ℕ) (h : Header) (cards : List ℕ) → parse t ≡ accepted h cards → length cards ≤ length before
     → (r : Driven) (after : List ℕ) → (r ≡ startOf (parse t) (length before)) × (after ≡ memoryStarted (parse t) before)
-    → (r .refusal ≡ 0) × Shows (h .pool) cards emptyDock (r .dock) after
+    → (r .refusal ≡ 0) × ShowsDock (h .pool) cards emptyDock (r .dock) after
 started-shows = starting.started-shows
 
 -- Calls of `drive`, one after the other, are the model's run of the list of their steps.
 pub driving-shows : (m : ℕ) (cards : List ℕ) (steps : List ModelStep) (dock : Dock) (memory : List ℕ)
-    → Driving m cards steps dock memory → Shows m cards (run m cards steps emptyDock) dock memory
+    → Driving m cards steps dock memory → ShowsDock m cards (run m cards steps emptyDock) dock memory
 driving-shows = driving.driving-shows
 
 -- Places past the list keep their content, whichever record, memory and step are handed in.

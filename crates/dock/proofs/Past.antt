@@ -10,7 +10,7 @@ use lib.Dec.{leb}
 use lib.ListN.{length, getD, set, drop, length-drop}
 use lib.Seq.{getD-drop, ext-getD, drop-set-lt}
 use borrow.Author.Tests.{leb-false}
-use Rattle.schedule.proofs.Bits.{by-test, or-neither}
+use Rattle.counting.proofs.Bits.{by-test, or-neither}
 use Rattle.schedule.proofs.Deliver.{deliver-within}
 use Rattle.dock.specs.Drive.{cardIn, heldIn, takesBuffer, freesBuffer, handedOver, freed, againstRules, bytesMade, bytesAfter, tooShort, memoryDriven}
 use Rattle.dock.specs.declared.Dock.{Dock}

@@ -10,13 +10,13 @@ use lib.Dec.{leb, ltb}
 use lib.ListN.{length, getD, set, length-set}
 use lib.Seq.{getD-set-same, getD-set-other}
 use borrow.Author.Tests.{eq-eqb, ne-eqb, le-leb, lt-leb, leb-true, leb-false, ltb-true, lt-ltb, not-true}
-use Rattle.schedule.specs.Count.{bit}
-use Rattle.schedule.specs.Schedule.{cardOf}
+use Rattle.counting.specs.Count.{bit}
+use Rattle.counting.specs.Frames.{cardOf}
 use Rattle.schedule.specs.Dock.{readFrame, isIn, against, perform, Dock as ModelDock}
-use Rattle.schedule.specs.declared.Position.{Position}
-use Rattle.schedule.proofs.Bits.{by-cases, and-left, and-right, or-cases}
+use Rattle.counting.specs.declared.Position.{Position}
+use Rattle.counting.proofs.Bits.{by-cases, and-left, and-right, or-cases}
 use Rattle.header.specs.Limits.{maxCards}
-use Rattle.dock.specs.State.{Shows}
+use Rattle.dock.specs.State.{ShowsDock}
 use Rattle.dock.specs.Records.{turnUsed}
 use Rattle.dock.specs.Drive.{cardIn, isHeld, takesBuffer, againstRules, recordMade, bytesMade}
 use Rattle.dock.specs.declared.Dock.{Dock}
@@ -38,7 +38,7 @@ module _ (dock : Dock) (i b : ℕ) (e : takesBuffer dock i b ≡ true) where
   pub takes-counted : dock .holding < dock .frames
   takes-counted = ltb-true (dock .holding) (dock .frames) (and-right (leb (dock .delivered) i) (ltb (dock .holding) (dock .frames)) takes-rest)
 
-module _ {m : ℕ} {cards : List ℕ} {d : ModelDock} {dock : Dock} {memory : List ℕ} (s : Shows m cards d dock memory) (p : Position) where
+module _ {m : ℕ} {cards : List ℕ} {d : ModelDock} {dock : Dock} {memory : List ℕ} (s : ShowsDock m cards d dock memory) (p : Position) where
   abbrev i : ℕ
   i = p .0
 
@@ -71,7 +71,7 @@ module _ {m : ℕ} {cards : List ℕ} {d : ModelDock} {dock : Dock} {memory : Li
         → h + bit (d .held i) ≡ dock .holding + bit (d .held i || leb (d .delivered) i)
         → getD after i 0 ≡ cardOf cards i + cond (d .held i || leb (d .delivered) i) 128 0
         → ((j : ℕ) → (j ≡ i → ⊥) → getD after j 0 ≡ getD memory j 0)
-        → Shows m cards (perform cards (readFrame i) d) (turnUsed dock (cardIn b) h) after
+        → ShowsDock m cards (perform cards (readFrame i) d) (turnUsed dock (cardIn b) h) after
     read h after e count here others =
         let v : Bool = d .held i || leb (d .delivered) i in
         record {
@@ -106,14 +106,14 @@ module _ {m : ℕ} {cards : List ℕ} {d : ModelDock} {dock : Dock} {memory : Li
         absurd (false≢true (sym no-take ∙ takes)))
         (λ g. rw (f, g)))
 
-    no-buffer : takesBuffer dock i b ≡ false → Shows m cards (perform cards (readFrame i) d) (turnUsed dock (cardIn b) (dock .holding)) memory
+    no-buffer : takesBuffer dock i b ≡ false → ShowsDock m cards (perform cards (readFrame i) d) (turnUsed dock (cardIn b) (dock .holding)) memory
     no-buffer no-take =
         let same : (d .held i || leb (d .delivered) i) ≡ d .held i = as-held no-take in
         read (dock .holding) memory refl (ap (λ v. dock .holding + bit v) (sym same))
         (s .marks i (in-list s i l) ∙ ap (λ v. cardOf cards i + cond v 128 0) (sym same)) (λ j e. refl)
 
     a-buffer : takesBuffer dock i b ≡ true
-        → Shows m cards (perform cards (readFrame i) d) (turnUsed dock (cardIn b) (dock .holding + 1)) (set memory i (b + 128))
+        → ShowsDock m cards (perform cards (readFrame i) d) (turnUsed dock (cardIn b) (dock .holding + 1)) (set memory i (b + 128))
     a-buffer takes =
         let f : d .held i ≡ false = sym (byte-held s i l) ∙ lt-leb 128 b (takes-not-held dock i b takes) in
         let g : d .delivered ≤ i = omega (arith, s .delivered, takes-ahead dock i b takes) in
@@ -123,5 +123,5 @@ module _ {m : ℕ} {cards : List ℕ} {d : ModelDock} {dock : Dock} {memory : Li
         (rw (f, t) (getD-set-same memory i (b + 128) 0 (omega (arith, s .frames, s .room)) ∙ omega arith))
         (λ j q. getD-set-other memory i j (b + 128) 0 q)
 
-    pub read-shows : Shows m cards (perform cards (readFrame i) d) (recordMade dock memory (Read p)) (bytesMade dock memory (Read p))
+    pub read-shows : ShowsDock m cards (perform cards (readFrame i) d) (recordMade dock memory (Read p)) (bytesMade dock memory (Read p))
     read-shows = by-cases (takesBuffer dock i b) (λ e. rw e (a-buffer e)) (λ e. rw e (no-buffer e))

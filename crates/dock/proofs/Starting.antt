@@ -15,9 +15,9 @@ use Rattle.ticket.specs.declared.Ticket.{Ticket}
 use Rattle.ticket.proofs.Answers.{was-refused}
 use Rattle.ticket.proofs.Accepted.{fits}
 use Rattle.schedule.specs.Dock.{emptyDock}
-use Rattle.schedule.proofs.Sums.{sum-zero}
+use Rattle.counting.proofs.Sums.{sum-zero}
 use Rattle.header.specs.Limits.{maxCards}
-use Rattle.dock.specs.State.{Shows, newDock, startOf, memoryStarted}
+use Rattle.dock.specs.State.{ShowsDock, newDock, startOf, memoryStarted}
 use Rattle.dock.specs.declared.Dock.{Dock}
 use Rattle.dock.specs.declared.Driven.{Driven}
 
@@ -50,7 +50,7 @@ module _ (t : List ℕ) (x : Ticket) (e : x ≡ ticketOf (parse t)) where
   ticket-refused k q r z before = rw (was-refused t x e k q) (z, refl)
 
 -- the cards at the front of memory, none held, show the empty dock of the model
-pub empty-shows : (h : Header) (cards rest : List ℕ) → Fits h cards → Shows (h .pool) cards emptyDock (newDock (h .pool) (length cards)) (cards ++ rest)
+pub empty-shows : (h : Header) (cards rest : List ℕ) → Fits h cards → ShowsDock (h .pool) cards emptyDock (newDock (h .pool) (length cards)) (cards ++ rest)
 empty-shows h cards rest f =
     record {
       frames = refl;
@@ -72,12 +72,12 @@ empty-shows h cards rest f =
 
 -- a started dock shows the empty dock of the model
 pub start-shows : (h : Header) (cards before : List ℕ) → Fits h cards → length cards ≤ length before
-    → Shows (h .pool) cards emptyDock (newDock (h .pool) (length cards)) (cards ++ drop (length cards) before)
+    → ShowsDock (h .pool) cards emptyDock (newDock (h .pool) (length cards)) (cards ++ drop (length cards) before)
 start-shows h cards before f l = empty-shows h cards (drop (length cards) before) f
 
 -- the answer to an accepted ticket with memory for its list
 pub started-shows : (t before : List ℕ) (h : Header) (cards : List ℕ) → parse t ≡ accepted h cards → length cards ≤ length before
-    → (r : Driven) (after : List ℕ) → Started (parse t) before r after → (r .refusal ≡ 0) × Shows (h .pool) cards emptyDock (r .dock) after
+    → (r : Driven) (after : List ℕ) → Started (parse t) before r after → (r .refusal ≡ 0) × ShowsDock (h .pool) cards emptyDock (r .dock) after
 unfolding startOf memoryStarted
 started-shows t before h cards e l r after s =
     let answer : r ≡ record { refusal = 0; dock = newDock (h .pool) (length cards) } = s .0 ∙ rw (e, le-ltb (length before) (length cards) l) in

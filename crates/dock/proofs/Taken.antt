@@ -8,7 +8,7 @@ use native.Mathlib.Omega.{arith}
 use lib.Dec.{leb}
 use lib.ListN.{length, getD, set, length-set}
 use borrow.Author.Tests.{le-leb, lt-leb, lt-ltb, le-ltb}
-use Rattle.schedule.specs.declared.Position.{Position}
+use Rattle.counting.specs.declared.Position.{Position}
 use Rattle.dock.specs.State.{mostCycles}
 use Rattle.dock.specs.Records.{brokenOff, turnUsed, nowHolding, cycleEnded}
 use Rattle.dock.specs.Drive.{cardIn, takesBuffer, againstRules, recordMade, bytesMade, recordAfter, bytesAfter}

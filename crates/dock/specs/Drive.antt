@@ -11,10 +11,10 @@ use mathlib.Core.Bool.{Bool, false, not, _&&_, _||_, cond}
 use mathlib.Core.List.{List, [], _∷_, _++_}
 use lib.Dec.{leb, ltb}
 use lib.ListN.{length, getD, set}
-use Rattle.schedule.specs.Count.{tabulate}
+use Rattle.counting.specs.Count.{tabulate}
 use Rattle.schedule.specs.Dock.{emptyDock, deliver, Step as ModelStep, Dock as ModelDock}
 use Rattle.schedule.specs.Dock as model
-use Rattle.dock.specs.State.{stepOf, Shows}
+use Rattle.dock.specs.State.{stepOf, ShowsDock}
 use Rattle.dock.specs.Records.{brokenOff, turnUsed, nowHolding, cycleEnded}
 use Rattle.dock.specs.declared.Dock.{Dock}
 use Rattle.dock.specs.declared.Step.{Step}
@@ -95,12 +95,12 @@ module _ (dock : Dock) (memory : List ℕ) where
 -- One call of `drive` follows the model: whichever dock of the model the record and the memory show, the model's step of it is shown afterwards.
 pub record Follows (dock : Dock) (step : Step) (before : List ℕ) (r : Answer) (after : List ℕ) : Type 0 where
   pub follows :
-      (m : ℕ) (cards : List ℕ) (d : ModelDock) → Shows m cards d dock before
-      → (r .refusal ≡ 0) × Shows m cards (model.step m cards (stepOf step) d) (r .dock) after
+      (m : ℕ) (cards : List ℕ) (d : ModelDock) → ShowsDock m cards d dock before
+      → (r .refusal ≡ 0) × ShowsDock m cards (model.step m cards (stepOf step) d) (r .dock) after
 
 -- Calls of `drive` one after the other, from a dock and memory that show the empty dock: the steps so far, and the dock and the memory now.
 pub data Driving (m : ℕ) (cards : List ℕ) : List ModelStep → Dock → List ℕ → Type 0 where
-  begin : (dock : Dock) (memory : List ℕ) → Shows m cards emptyDock dock memory → Driving m cards [] dock memory
+  begin : (dock : Dock) (memory : List ℕ) → ShowsDock m cards emptyDock dock memory → Driving m cards [] dock memory
   next :
       (steps : List ModelStep) (dock : Dock) (memory : List ℕ) (a : Step) → Driving m cards steps dock memory
       → Driving m cards (steps ++ (stepOf a ∷ [])) (driveOf dock memory a .dock) (memoryDriven dock memory a)

@@ -7,8 +7,8 @@ use mathlib.Core.Bool.{Bool, true, false, not, cond}
 use mathlib.Core.List.{List}
 use lib.Dec.{ltb}
 use lib.ListN.{length, getD, replicate}
-use Rattle.schedule.specs.Count.{written}
-use Rattle.schedule.specs.Schedule.{cardOf}
+use Rattle.counting.specs.Count.{written}
+use Rattle.counting.specs.Frames.{cardOf}
 use Rattle.schedule.specs.Dock.{isIn, isEmpty, holding, readFrame, dropFrame, endCycle, Step as ModelStep, Dock as ModelDock}
 use Rattle.header.specs.Limits.{maxCards, maxFrames}
 use Rattle.ticket.specs.Ticket.{Parsed, accepted, refused}
@@ -32,7 +32,7 @@ abbrev pub mark : List ℕ → (ℕ → Bool) → ℕ → ℕ
 mark cards held i = cardOf cards i + cond (held i) 128 0
 
 -- The record and the memory show the model's dock d, for a pool of m and the list of cards.
-pub record Shows (m : ℕ) (cards : List ℕ) (d : ModelDock) (dock : Dock) (memory : List ℕ) : Type 0 where
+pub record ShowsDock (m : ℕ) (cards : List ℕ) (d : ModelDock) (dock : Dock) (memory : List ℕ) : Type 0 where
   pub frames : dock .frames ≡ length cards
   pub pool : dock .pool ≡ m
   pub delivered : dock .delivered ≡ d .delivered

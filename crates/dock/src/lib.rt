@@ -11,7 +11,7 @@ ghost use Rattle.dock.specs.Drive.{driveOf, memoryDriven, Follows};
 mod steps;
 
 use header::Header;
-use schedule::Position;
+use counting::Position;
 
 // A step. Positions past the list are against the rules.
 pub enum Step {
@@ -66,7 +66,7 @@ fn refused(number: u8) -> Driven
 }
 
 // The cards of the list, none held, at the first places of memory.
-fn place(cards: &[u8], memory: &mut [u8])
+fn copy_cards(cards: &[u8], memory: &mut [u8])
     requires { ⌜ length (now cards) ≤ length (now memory) ⌝ }
     ensures { λ r. ⌜ now (memory .exit) ≡ now (cards .entry) ++ drop (length (now (cards .entry))) (now (memory .entry)) ⌝ }
 {
@@ -88,7 +88,7 @@ fn start_list(h: Header, card: &[u8], memory: &mut [u8]) -> Driven
     if memory.len() < n {
         return refused(10);
     }
-    place(&card[..n], memory);
+    copy_cards(&card[..n], memory);
     Driven {
         refusal: 0,
         dock: empty(h.pool, h.frames),

@@ -10,7 +10,7 @@ ghost use Rattle.dock.specs.Drive.{cardIn, takesBuffer};
 ghost use Rattle.dock.specs.Parts.{Advanced, HandedOver};
 use crate::Dock;
 use crate::Step;
-use schedule::Position;
+use counting::Position;
 
 // The card in a frame's byte.
 fn card_in(b: u8) -> usize

@@ -8,12 +8,12 @@ use Rattle.schedule.specs.Drive.{outcome, peak, stepsTo}
 use Rattle.schedule.specs.Verdict.{verdictOnRead, verdictOnSave}
 use Rattle.text.specs.Text.{digit, digits, number, isLine}
 use Rattle.text.specs.Hex.{digitOf, hex}
-use Rattle.header.specs.Heading.{headerOf, judge, heading}
+use Rattle.header.specs.Heading.{headerOf, withinLimits, heading}
 use Rattle.ticket.specs.Ticket.{cardAt, lineFault, linesFault, partFault, parse, zeros, lineOf, linePlace}
 use Rattle.ticket.specs.Print.{lineTexts, ticketText}
-use Rattle.planner.specs.Plan.{answerTo, bufferAfter}
+use Rattle.planner.specs.Plan.{planOf, bufferAfter}
 use Rattle.checker.specs.Check.{checkOf}
-use Rattle.replay.specs.Run.{ranOf}
+use Rattle.plan_run.specs.Run.{ranOf}
 use Rattle.printing.specs.Printed.{frameLines, planText, refusalText, textOf, bytesIn}
 use Rattle.printing.specs.Printed as printing
 use Rattle.saver.specs.Calls.{newOf, saveOf, closeOf}
@@ -24,7 +24,7 @@ use Rattle.firmware.specs.Cases.{Case, call, expected, cases}
 
 pub cases-hold : map (λ (x : Case). resultOf (call x)) cases ≡ map expected cases
 unfolding saveAndKeep greedyWriting lazyPrefetching run outcome peak stepsTo verdictOnRead verdictOnSave digit digits number isLine digitOf
-    hex headerOf judge heading cardAt lineFault linesFault partFault parse zeros lineOf linePlace lineTexts ticketText answerTo bufferAfter
+    hex headerOf withinLimits heading cardAt lineFault linesFault partFault parse zeros lineOf linePlace lineTexts ticketText planOf bufferAfter
     checkOf ranOf frameLines planText refusalText textOf bytesIn printing.bufferAfter newOf saveOf closeOf startOf memoryStarted recordAfter
     bytesAfter driveOf memoryDriven
 cases-hold = refl

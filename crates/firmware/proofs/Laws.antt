@@ -5,9 +5,9 @@ use mathlib.Core.Path.{_≡_, refl, ap, _∙_}
 use mathlib.Core.Bool.{Bool}
 use mathlib.Core.List.{List}
 use lib.ListN.{length}
-use Rattle.schedule.specs.declared.Cycle.{Cycle}
+use Rattle.counting.specs.declared.Cycle.{Cycle}
 use Rattle.ticket.specs.Ticket.{parse, refusalOf, countsOf}
-use Rattle.planner.specs.Plan.{answerTo, bufferAfter}
+use Rattle.planner.specs.Plan.{planOf, bufferAfter}
 use Rattle.planner.specs.Numbers.{numbersOf}
 use Rattle.planner.specs.Demand3.{Demand3}
 use Rattle.planner.specs.declared.Answer.{Answer}
@@ -15,9 +15,9 @@ use Rattle.checker.specs.Check.{checkOf}
 use Rattle.checker.specs.Numbers.{numbersOf as numbersOfCheck}
 use Rattle.checker.specs.Exact.{Exact}
 use Rattle.checker.specs.declared.Verdict.{Verdict}
-use Rattle.replay.specs.Numbers.{completeIn, neededIn, numbersOf as numbersOfRun}
-use Rattle.replay.specs.declared.Run.{Run}
-use Rattle.replay.specs.declared.Answer.the-variants.{Ran}
+use Rattle.plan_run.specs.Numbers.{completeIn, neededIn, numbersOf as numbersOfRun}
+use Rattle.plan_run.specs.declared.Run.{Run}
+use Rattle.plan_run.specs.declared.Answer.the-variants.{Ran}
 use Rattle.firmware.specs.Answers.{countsAnswer, planAnswer, checkAnswer, runAnswer}
 use Rattle.firmware.specs.declared.plans.PlanAnswer.{PlanAnswer}
 use Rattle.firmware.specs.declared.checks.CheckAnswer.{CheckAnswer}
@@ -31,10 +31,10 @@ counted t number frames e f = rw (e, f) refl
 -- the contract of `dockplan_plan` from that of `planner::plan`
 module _ (t before after : List ℕ) (a : Answer) (r : PlanAnswer) (e : r ≡ planAnswer (numbersOf a)) where
   pub planned :
-      (a ≡ answerTo (parse t) (length before))
+      (a ≡ planOf (parse t) (length before))
       × ((after ≡ bufferAfter (parse t) before)
-      × ((numbersOf a ≡ numbersOf (answerTo (parse t) (length before))) × Demand3 t (numbersOf a .refusal) (numbersOf a .cycles .0) after))
-      → (r ≡ planAnswer (numbersOf (answerTo (parse t) (length before))))
+      × ((numbersOf a ≡ numbersOf (planOf (parse t) (length before))) × Demand3 t (numbersOf a .refusal) (numbersOf a .cycles .0) after))
+      → (r ≡ planAnswer (numbersOf (planOf (parse t) (length before))))
       × ((after ≡ bufferAfter (parse t) before) × Demand3 t (r .refusal) (r .cycles .0) after)
   planned p = (e ∙ ap planAnswer (p .1 .1 .0), (p .1 .0, rw e (p .1 .1 .1)))
 

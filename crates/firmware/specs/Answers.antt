@@ -8,7 +8,7 @@ use Rattle.header.specs.Numbers as header
 use Rattle.ticket.specs.Ticket.{Parsed, refusalOf, lineOf, linePlace, countsOf}
 use Rattle.planner.specs.Numbers as planner
 use Rattle.checker.specs.Numbers as checker
-use Rattle.replay.specs.Numbers as replay
+use Rattle.plan_run.specs.Numbers as replay
 use Rattle.firmware.specs.declared.tickets.TicketAnswer.{TicketAnswer}
 use Rattle.firmware.specs.declared.tickets.Part.{Part}
 use Rattle.firmware.specs.declared.tickets.CountsAnswer.{CountsAnswer}

@@ -8,12 +8,12 @@ use lib.ListN.{length}
 use Rattle.header.specs.declared.Header.{Header}
 use Rattle.ticket.specs.Ticket.{parse, numbersIn, lineRefusalOf}
 use Rattle.ticket.specs.Print.{ticketText}
-use Rattle.planner.specs.Plan.{answerTo, bufferAfter}
+use Rattle.planner.specs.Plan.{planOf, bufferAfter}
 use Rattle.planner.specs.Numbers.{numbersOf as numbersOfPlan}
 use Rattle.checker.specs.Check.{checkOf}
 use Rattle.checker.specs.Numbers.{numbersOf as numbersOfCheck}
-use Rattle.replay.specs.Run.{ranOf}
-use Rattle.replay.specs.Numbers.{numbersOf as numbersOfRun}
+use Rattle.plan_run.specs.Run.{ranOf}
+use Rattle.plan_run.specs.Numbers.{numbersOf as numbersOfRun}
 use Rattle.printing.specs.Printed.{printed, bytesIn, bufferAfter as textAfter}
 use Rattle.saver.specs.Calls.{newOf, saveOf, closeOf}
 use Rattle.saver.specs.declared.Saver.{Saver}
@@ -93,7 +93,7 @@ ofDock a memory = dock (a .refusal) (a .dock) memory
 
 abbrev pub resultOf : Call → Result
 resultOf (parseTicket t) = ofTicket (ticketAnswer (numbersIn (parse t)))
-resultOf (planTicket t buffer) = ofPlan (planAnswer (numbersOfPlan (answerTo (parse t) (length buffer)))) (bufferAfter (parse t) buffer)
+resultOf (planTicket t buffer) = ofPlan (planAnswer (numbersOfPlan (planOf (parse t) (length buffer)))) (bufferAfter (parse t) buffer)
 resultOf (printPlan t buffer) = text (bytesIn (printed t) (length buffer)) (textAfter (printed t) buffer)
 resultOf (checkPlan t cycles) = ofCheck (checkAnswer (numbersOfCheck (checkOf (parse t) cycles)))
 resultOf (runPlan t cycles) = ofRun (runAnswer (numbersOfRun (ranOf (parse t) cycles)))

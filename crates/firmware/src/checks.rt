@@ -4,12 +4,12 @@ ghost use Rattle.ticket.specs.Ticket.{parse};
 ghost use Rattle.checker.specs.Numbers.{numbersOf};
 ghost use Rattle.checker.specs.Check.{checkOf};
 ghost use Rattle.checker.specs.Exact.{Exact};
-ghost use Rattle.replay.specs.Numbers.{completeIn, neededIn, numbersOf as numbersOfRun};
-ghost use Rattle.replay.specs.Run.{ranOf};
-ghost use Rattle.replay.specs.declared.Answer.the-variants.{Ran};
+ghost use Rattle.plan_run.specs.Numbers.{completeIn, neededIn, numbersOf as numbersOfRun};
+ghost use Rattle.plan_run.specs.Run.{ranOf};
+ghost use Rattle.plan_run.specs.declared.Answer.the-variants.{Ran};
 ghost use Rattle.firmware.specs.Answers.{checkAnswer, runAnswer};
-use schedule::Cycle;
-use schedule::Position;
+use counting::Cycle;
+use counting::Position;
 
 // A verdict by its number; 0 beside a refusal, so that no cleared answer says valid.
 const VALID: u8 = 1;
@@ -87,25 +87,25 @@ pub extern "C" fn dockplan_check(ticket: &[u8], plan: &[u16]) -> CheckAnswer
     check_answer(checker::check(ticket, plan))
 }
 
-fn is_complete(outcome: replay::Outcome) -> bool
+fn is_complete(outcome: plan_run::Outcome) -> bool
     ensures { λ r. ⌜ r ≡ completeIn outcome ⌝ }
 {
     match outcome {
-        replay::Outcome::Complete(_) => true,
-        replay::Outcome::Unfinished => false,
+        plan_run::Outcome::Complete(_) => true,
+        plan_run::Outcome::Unfinished => false,
     }
 }
 
-fn cycles_needed(outcome: replay::Outcome) -> Cycle
+fn cycles_needed(outcome: plan_run::Outcome) -> Cycle
     ensures { λ r. ⌜ r ≡ neededIn outcome ⌝ }
 {
     match outcome {
-        replay::Outcome::Complete(needed) => needed,
-        replay::Outcome::Unfinished => Cycle(0),
+        plan_run::Outcome::Complete(needed) => needed,
+        plan_run::Outcome::Unfinished => Cycle(0),
     }
 }
 
-fn ran(run: replay::Run) -> RunAnswer
+fn ran(run: plan_run::Run) -> RunAnswer
     ensures { λ r. ⌜ r ≡ runAnswer (numbersOfRun (Ran run)) ⌝ }
 {
     let outcome = run.outcome;
@@ -121,12 +121,12 @@ fn ran(run: replay::Run) -> RunAnswer
     }
 }
 
-fn run_answer(answer: replay::Answer) -> RunAnswer
+fn run_answer(answer: plan_run::Answer) -> RunAnswer
     ensures { λ r. ⌜ r ≡ runAnswer (numbersOfRun answer) ⌝ }
 {
     match answer {
-        replay::Answer::Ran(run) => ran(run),
-        replay::Answer::Refused(number) => RunAnswer {
+        plan_run::Answer::Ran(run) => ran(run),
+        plan_run::Answer::Refused(number) => RunAnswer {
             refusal: number,
             broken: false,
             complete: false,
@@ -142,5 +142,5 @@ fn run_answer(answer: replay::Answer) -> RunAnswer
 pub extern "C" fn dockplan_run_plan(ticket: &[u8], plan: &[u16]) -> RunAnswer
     ensures { λ r. ⌜ r ≡ runAnswer (numbersOfRun (ranOf (parse (now (ticket .entry))) (now (plan .entry)))) ⌝ }
 {
-    run_answer(replay::run_plan(ticket, plan))
+    run_answer(plan_run::run_plan(ticket, plan))
 }

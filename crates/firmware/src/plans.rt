@@ -2,12 +2,12 @@
 ghost use mathlib.Core.Path.{_≡_};
 ghost use lib.ListN.{length};
 ghost use Rattle.ticket.specs.Ticket.{parse};
-ghost use Rattle.planner.specs.Plan.{answerTo, bufferAfter};
+ghost use Rattle.planner.specs.Plan.{planOf, bufferAfter};
 ghost use Rattle.planner.specs.Numbers.{numbersOf};
 ghost use Rattle.planner.specs.Demand3.{Demand3};
 ghost use Rattle.printing.specs.Printed.{printed, bytesIn, bufferAfter as textAfter};
 ghost use Rattle.firmware.specs.Answers.{planAnswer};
-use schedule::Cycle;
+use counting::Cycle;
 
 // A plan of so many cycles.
 #[repr(C)]
@@ -34,7 +34,7 @@ fn plan_answer(answer: planner::Answer) -> PlanAnswer
 // Fills the first places of `plan`. `demand` is demand 3, about the T answered and the plan that now stands there.
 #[no_mangle]
 pub extern "C" fn dockplan_plan(ticket: &[u8], plan: &mut [u16]) -> PlanAnswer
-    ensures answer { λ r. ⌜ r ≡ planAnswer (numbersOf (answerTo (parse (now (ticket .entry))) (length (now (plan .entry))))) ⌝ }
+    ensures answer { λ r. ⌜ r ≡ planAnswer (numbersOf (planOf (parse (now (ticket .entry))) (length (now (plan .entry))))) ⌝ }
     ensures buffer { λ r. ⌜ now (plan .exit) ≡ bufferAfter (parse (now (ticket .entry))) (now (plan .entry)) ⌝ }
     ensures demand { λ r. ⌜ Demand3 (now (ticket .entry)) (r .refusal) (r .cycles .0) (now (plan .exit)) ⌝ }
 {

@@ -4,7 +4,7 @@ ghost use lib.ListN.{take, drop};
 ghost use Rattle.header.specs.Numbers.{numbersOf};
 ghost use Rattle.ticket.specs.Ticket.{parse, numbersIn, lineRefusalOf, lineOf};
 ghost use Rattle.firmware.specs.Answers.{ticketAnswer, linePart, countsAnswer};
-use schedule::Position;
+use counting::Position;
 
 // What the header of a ticket says.
 #[repr(C)]

@@ -13,8 +13,8 @@ use Rattle.header.specs.declared.Header.{Header}
 use Rattle.header.specs.declared.Answer.{Answer}
 use Rattle.header.specs.declared.Answer.the-variants.{Accepted, Refused}
 use Rattle.text.specs.Text.{number, isLine}
-use Rattle.header.specs.Heading.{headerDigits, headerOf, judge, heading}
-use Rattle.header.specs.Limits.{edition1, saveAndKeep, maxCards, maxPool, maxFrames, Within, Outside}
+use Rattle.header.specs.Heading.{headerDigits, headerOf, withinLimits, heading}
+use Rattle.header.specs.Limits.{edition1, modeSaveAndKeep, maxCards, maxPool, maxFrames, Within, Outside}
 
 -- a range's test, and its two cases
 pub within : (n x : ℕ) → Within n x → (leb 1 x && leb x n) ≡ true
@@ -32,32 +32,32 @@ range n x =
     ]
 
 module _ (h : Header) where
-  pub judge-2 : (h .edition ≡ edition1 → ⊥) → judge h ≡ Refused 2
-  unfolding judge
+  pub judge-2 : (h .edition ≡ edition1 → ⊥) → withinLimits h ≡ Refused 2
+  unfolding withinLimits
   judge-2 e = rw (ne-eqb _ _ e)
 
   module _ (e : h .edition ≡ edition1) where
-    pub judge-3 : saveAndKeep < h .mode → judge h ≡ Refused 3
-    unfolding judge
+    pub judge-3 : modeSaveAndKeep < h .mode → withinLimits h ≡ Refused 3
+    unfolding withinLimits
     judge-3 l = rw (eq-eqb _ _ e, lt-leb _ _ l)
 
-    module _ (m : h .mode ≤ saveAndKeep) where
-      pub judge-4 : Outside maxCards (h .cards) → judge h ≡ Refused 4
-      unfolding judge
+    module _ (m : h .mode ≤ modeSaveAndKeep) where
+      pub judge-4 : Outside maxCards (h .cards) → withinLimits h ≡ Refused 4
+      unfolding withinLimits
       judge-4 o = rw (eq-eqb _ _ e, le-leb _ _ m, outside _ _ o)
 
       module _ (c : Within maxCards (h .cards)) where
-        pub judge-5 : Outside maxPool (h .pool) → judge h ≡ Refused 5
-        unfolding judge
+        pub judge-5 : Outside maxPool (h .pool) → withinLimits h ≡ Refused 5
+        unfolding withinLimits
         judge-5 o = rw (eq-eqb _ _ e, le-leb _ _ m, within _ _ c, outside _ _ o)
 
         module _ (p : Within maxPool (h .pool)) where
-          pub judge-6 : maxFrames < h .frames → judge h ≡ Refused 6
-          unfolding judge
+          pub judge-6 : maxFrames < h .frames → withinLimits h ≡ Refused 6
+          unfolding withinLimits
           judge-6 l = rw (eq-eqb _ _ e, le-leb _ _ m, within _ _ c, within _ _ p, lt-leb _ _ l)
 
-          pub judge-accepts : h .frames ≤ maxFrames → judge h ≡ Accepted h
-          unfolding judge
+          pub judge-accepts : h .frames ≤ maxFrames → withinLimits h ≡ Accepted h
+          unfolding withinLimits
           judge-accepts l = rw (eq-eqb _ _ e, le-leb _ _ m, within _ _ c, within _ _ p, le-leb _ _ l)
 
 module _ (t : List ℕ) where
@@ -65,13 +65,13 @@ module _ (t : List ℕ) where
   unfolding heading
   heading-1 e = rw e
 
-  pub heading-of : isLine t 0 headerDigits ≡ true → heading t ≡ judge (headerOf t)
+  pub heading-of : isLine t 0 headerDigits ≡ true → heading t ≡ withinLimits (headerOf t)
   unfolding heading
   heading-of e = rw e
 
   -- the numbers that were read are the header's
   pub heading-read :
       {r : Answer} {e m c p f : ℕ} → isLine t 0 headerDigits ≡ true → e ≡ number t 0 2 → m ≡ number t 2 2 → c ≡ number t 4 2 → p ≡ number t 6 4
-      → f ≡ number t 10 4 → r ≡ judge (record { edition = e; mode = m; cards = c; pool = p; frames = f }) → r ≡ heading t
+      → f ≡ number t 10 4 → r ≡ withinLimits (record { edition = e; mode = m; cards = c; pool = p; frames = f }) → r ≡ heading t
   unfolding headerOf
   heading-read l e m c p f j = rw (heading-of l, ← e, ← m, ← c, ← p, ← f) j

@@ -5,7 +5,7 @@ use mathlib.Core.Bool.{_&&_, cond}
 use mathlib.Core.List.{List}
 use lib.Dec.{eqb, leb}
 use Rattle.text.specs.Text.{number, isLine}
-use Rattle.header.specs.Limits.{edition1, saveAndKeep, maxCards, maxPool, maxFrames}
+use Rattle.header.specs.Limits.{edition1, modeSaveAndKeep, maxCards, maxPool, maxFrames}
 use Rattle.header.specs.declared.Header.{Header}
 use Rattle.header.specs.declared.Answer.{Answer}
 use Rattle.header.specs.declared.Answer.the-variants.{Accepted, Refused}
@@ -22,10 +22,10 @@ unfoldable pub headerOf : List ℕ → Header
 headerOf t = record { edition = number t 0 2; mode = number t 2 2; cards = number t 4 2; pool = number t 6 4; frames = number t 10 4 }
 
 -- Refusals 2 to 6.
-unfoldable pub judge : Header → Answer
-judge h =
+unfoldable pub withinLimits : Header → Answer
+withinLimits h =
     cond (eqb (h .edition) edition1)
-    (cond (leb (h .mode) saveAndKeep)
+    (cond (leb (h .mode) modeSaveAndKeep)
     (cond (leb 1 (h .cards) && leb (h .cards) maxCards)
     (cond (leb 1 (h .pool) && leb (h .pool) maxPool)
     (cond (leb (h .frames) maxFrames) (Accepted h) (Refused 6))
@@ -36,4 +36,4 @@ judge h =
 
 -- Refusals 1 to 6.
 unfoldable pub heading : List ℕ → Answer
-heading t = cond (isLine t 0 headerDigits) (judge (headerOf t)) (Refused 1)
+heading t = cond (isLine t 0 headerDigits) (withinLimits (headerOf t)) (Refused 1)

@@ -8,14 +8,14 @@ abbrev pub edition1 : ℕ
 edition1 = 1
 
 -- "Modes: 00 read; 01 save; 02 save and keep."
-abbrev pub read : ℕ
-read = 0
+abbrev pub modeRead : ℕ
+modeRead = 0
 
-abbrev pub save : ℕ
-save = 1
+abbrev pub modeSave : ℕ
+modeSave = 1
 
-abbrev pub saveAndKeep : ℕ
-saveAndKeep = 2
+abbrev pub modeSaveAndKeep : ℕ
+modeSaveAndKeep = 2
 
 -- "Cards 1 to 32". Answers that have an entry for each card have 32 entries.
 abbrev pub maxCards : ℕ

@@ -1,7 +1,7 @@
 // The header of a ticket: refusals 1 to 6.
 ghost use mathlib.Core.Path.{_≡_};
 ghost use Rattle.text.specs.Text.{digitValues};
-ghost use Rattle.header.specs.Heading.{judge, heading};
+ghost use Rattle.header.specs.Heading.{withinLimits, heading};
 ghost use Rattle.header.specs.Numbers.{numbersOf};
 
 mod fields;
@@ -23,13 +23,13 @@ pub enum Answer {
 }
 
 // Refusals 2 to 6.
-fn judge(h: Header) -> Answer
-    ensures { λ r. ⌜ r ≡ judge h ⌝ }
+fn within_limits(h: Header) -> Answer
+    ensures { λ r. ⌜ r ≡ withinLimits h ⌝ }
 {
     if h.edition != limits::EDITION {
         return Answer::Refused(2);
     }
-    if limits::SAVE_AND_KEEP < h.mode {
+    if limits::MODE_SAVE_AND_KEEP < h.mode {
         return Answer::Refused(3);
     }
     if h.cards < 1 {
@@ -56,7 +56,7 @@ fn read_heading(value: &[u8; 256], t: &[u8]) -> Answer
     ensures { λ r. ⌜ r ≡ heading (now (t .entry)) ⌝ }
 {
     if fields::is_line(value, t, 0, 14) {
-        judge(Header {
+        within_limits(Header {
             edition: fields::number(value, t, 0, 2) as u8,
             mode: fields::number(value, t, 2, 2) as u8,
             cards: fields::number(value, t, 4, 2) as u8,

@@ -2,11 +2,11 @@
 
 pub const EDITION: u8 = 1;
 
-pub const READ: u8 = 0;
+pub const MODE_READ: u8 = 0;
 
-pub const SAVE: u8 = 1;
+pub const MODE_SAVE: u8 = 1;
 
-pub const SAVE_AND_KEEP: u8 = 2;
+pub const MODE_SAVE_AND_KEEP: u8 = 2;
 
 pub const MAX_CARDS: u8 = 32;
 

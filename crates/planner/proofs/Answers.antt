@@ -12,14 +12,14 @@ use Rattle.ticket.specs.Ticket.{accepted, parse, ticketOf}
 use Rattle.ticket.specs.Grounds.{Fits}
 use Rattle.ticket.specs.declared.Ticket.{Ticket}
 use Rattle.ticket.proofs.Answers.{was-refused}
-use Rattle.planner.specs.Plan.{planFor, answerTo, bufferAfter, Answered}
+use Rattle.planner.specs.Plan.{planFor, planOf, bufferAfter, Answered}
 use Rattle.planner.specs.Pass.{Asked, Filled}
 use Rattle.planner.specs.declared.Answer.the-variants.{Planned, Refused}
 
 -- a list that is read, and a buffer
 module _ (h : Header) (cards before : List ℕ) (f : Fits h cards) where
   pub too-small : length before < h .frames → Answered (accepted h cards) before before (Refused 10)
-  unfolding answerTo bufferAfter
+  unfolding planOf bufferAfter
   too-small l =
       let g : length before < length cards = omega (arith, f .frames) in
       record { answer = rw (lt-ltb (length before) (length cards) g); buffer = rw (lt-ltb (length before) (length cards) g) }
@@ -37,7 +37,7 @@ module _ (h : Header) (cards before : List ℕ) (f : Fits h cards) where
     pub planned :
         (after : List ℕ) (T : ℕ) → Filled (planFor (h .mode) (h .pool) cards) before after T
         → Answered (accepted h cards) before after (Planned (record { 0 = T }))
-    unfolding answerTo bufferAfter
+    unfolding planOf bufferAfter
     planned after T p =
         let g : length cards ≤ length before = omega (arith, f .frames) in
         record {
@@ -48,5 +48,5 @@ module _ (h : Header) (cards before : List ℕ) (f : Fits h cards) where
 -- the ticket's reader has answered
 module _ (t : List ℕ) (x : Ticket) (e : x ≡ ticketOf (parse t)) where
   pub ticket-refused : (k : ℕ) (before : List ℕ) → x .answer ≡ RefusedTicket k → Answered (parse t) before before (Refused k)
-  unfolding answerTo bufferAfter
+  unfolding planOf bufferAfter
   ticket-refused k before q = rw (was-refused t x e k q) (record { answer = refl; buffer = refl })

@@ -6,12 +6,12 @@ use Rattle.schedule.specs.Greedy.{saveAndKeep, greedyWriting, lazyPrefetching}
 use Rattle.schedule.specs.Cases.{expected, cases}
 use Rattle.text.specs.Text.{digit, digits, number, isLine}
 use Rattle.text.specs.Hex.{digitOf, hex}
-use Rattle.header.specs.Heading.{headerOf, judge, heading}
+use Rattle.header.specs.Heading.{headerOf, withinLimits, heading}
 use Rattle.ticket.specs.Ticket.{cardAt, lineFault, linesFault, partFault, parse, zeros}
 use Rattle.ticket.specs.Print.{lineTexts, ticketText}
-use Rattle.planner.specs.Plan.{answerTo, bufferAfter}
+use Rattle.planner.specs.Plan.{planOf, bufferAfter}
 use Rattle.planner.specs.Cases.{asked}
 
 pub plans-hold : map asked cases ≡ map expected cases
-unfolding saveAndKeep greedyWriting lazyPrefetching digit digits number isLine digitOf hex headerOf judge heading cardAt lineFault linesFault partFault parse zeros lineTexts ticketText answerTo bufferAfter
+unfolding saveAndKeep greedyWriting lazyPrefetching digit digits number isLine digitOf hex headerOf withinLimits heading cardAt lineFault linesFault partFault parse zeros lineTexts ticketText planOf bufferAfter
 plans-hold = refl

@@ -11,13 +11,13 @@ use lib.Seq.{take-at}
 use borrow.Author.Tests.{ltb-true}
 use Rattle.schedule.specs.Greedy.{Plan}
 use Rattle.schedule.specs.Demand.{SaveDemand, ReadDemand}
-use Rattle.schedule.proofs.Bits.{by-cases}
+use Rattle.counting.proofs.Bits.{by-cases}
 use Rattle.schedule.proofs.Main.{save-correct, read-correct, save-demand, read-demand}
 use Rattle.header.specs.declared.Header.{Header}
 use Rattle.ticket.specs.Ticket.{accepted, parse}
 use Rattle.ticket.proofs.Main.{accepted-fits}
 use Rattle.planner.specs.Numbers.{numbersOf}
-use Rattle.planner.specs.Plan.{planFor, answerTo, bufferAfter, Answered}
+use Rattle.planner.specs.Plan.{planFor, planOf, bufferAfter, Answered}
 use Rattle.planner.specs.Demand3.{Demand3}
 use Rattle.planner.specs.declared.Answer.{Answer}
 use Rattle.planner.proofs.Plans.{plan-read, plan-save}
@@ -35,7 +35,7 @@ module _ (h : Header) (cards before after : List ℕ) (r : Answer) (a : Answered
       (λ e. e)
 
   answers-T : (numbersOf r .refusal ≡ 0) × (numbersOf r .cycles .0 ≡ plan .T)
-  unfolding answerTo
+  unfolding planOf
   answers-T = rw (a .answer, has-room) (refl, refl)
 
   holds-plan : length (plan .cycles) ≡ length cards → take (length cards) after ≡ plan .cycles
@@ -67,7 +67,7 @@ module _ (t before after : List ℕ) (r : Answer) (a : Answered (parse t) before
       }
 
   -- the whole contract of `plan`
-  pub contract : (r ≡ answerTo (parse t) (length before))
+  pub contract : (r ≡ planOf (parse t) (length before))
       × ((after ≡ bufferAfter (parse t) before)
-      × ((numbersOf r ≡ numbersOf (answerTo (parse t) (length before))) × Demand3 t (numbersOf r .refusal) (numbersOf r .cycles .0) after))
+      × ((numbersOf r ≡ numbersOf (planOf (parse t) (length before))) × Demand3 t (numbersOf r .refusal) (numbersOf r .cycles .0) after))
   contract = (a .answer, (a .buffer, (ap numbersOf (a .answer), demand-3)))

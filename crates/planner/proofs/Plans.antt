@@ -10,14 +10,14 @@ use lib.Dec.{ltb}
 use lib.ListN.{length, getD, drop, length-append, length-map, length-reverse, List·getD-append}
 use borrow.Author.Tests.{eq-eqb, ne-eqb}
 use lib.Seq.{take-at, drop-at}
-use Rattle.schedule.specs.Count.{written}
+use Rattle.counting.specs.Count.{written}
 use Rattle.schedule.specs.Schedule.{cycleOf}
 use Rattle.schedule.specs.Greedy.{Plan, inPool, enter, isFirst, oneCycle, saveFirst, saveAndKeep, greedyWriting, lazyPrefetching}
-use Rattle.schedule.proofs.Lists.{length-tabulate, le-largest, reverse-getD, map-reverse}
-use Rattle.schedule.proofs.Bits.{by-test}
+use Rattle.counting.proofs.Lists.{length-tabulate, le-largest, reverse-getD, map-reverse}
+use Rattle.counting.proofs.Bits.{by-test}
 use Rattle.schedule.proofs.Main.{save-correct, read-correct, save-length}
-use Rattle.header.specs.Limits.{read, save}
-use Rattle.onepass.specs.AsOf.{asOf}
+use Rattle.header.specs.Limits.{modeRead, modeSave}
+use Rattle.greedy_pass.specs.AsOf.{asOf}
 use Rattle.planner.specs.Plan.{planFor}
 use Rattle.planner.specs.Pass.{onFirst, Asked, Passed, Filled}
 
@@ -28,14 +28,14 @@ onFirst-written f n l before e =
 
 -- the plan of each mode
 module _ (mode m : ℕ) (cards : List ℕ) where
-  pub plan-read : mode ≡ read → planFor mode m cards ≡ lazyPrefetching m cards
-  plan-read e = rw (eq-eqb mode read e)
+  pub plan-read : mode ≡ modeRead → planFor mode m cards ≡ lazyPrefetching m cards
+  plan-read e = rw (eq-eqb mode modeRead e)
 
-  pub plan-save : mode ≡ save → planFor mode m cards ≡ greedyWriting m cards
+  pub plan-save : mode ≡ modeSave → planFor mode m cards ≡ greedyWriting m cards
   plan-save e = rw e
 
-  pub plan-keep : (mode ≡ read → ⊥) → (mode ≡ save → ⊥) → planFor mode m cards ≡ saveAndKeep m cards
-  plan-keep e g = rw (ne-eqb mode read e, ne-eqb mode save g)
+  pub plan-keep : (mode ≡ modeRead → ⊥) → (mode ≡ modeSave → ⊥) → planFor mode m cards ≡ saveAndKeep m cards
+  plan-keep e g = rw (ne-eqb mode modeRead e, ne-eqb mode modeSave g)
 
   length-cycle : (p : Plan) → length (oneCycle cards p .cycles) ≡ length (p .cycles)
   length-cycle p = length-tabulate (length (p .cycles)) (λ i. cond (isFirst cards (p .cycles) i) (suc (p .T)) (cycleOf (p .cycles) i))
@@ -52,10 +52,10 @@ module _ (mode m : ℕ) (cards : List ℕ) where
   pub plan-length : 1 ≤ m → length (planFor mode m cards .cycles) ≡ length cards
   unfolding saveAndKeep
   plan-length pool =
-      elim (ℕ-discrete mode read) [
+      elim (ℕ-discrete mode modeRead) [
         | yes e ↦ rw (plan-read e) (read-correct m cards pool .one-each)
         | no n ↦
-            elim (ℕ-discrete mode save) [
+            elim (ℕ-discrete mode modeSave) [
               | yes e ↦ rw (plan-save e) (save-correct m cards pool .one-each)
               | no k ↦ rw (plan-keep n k) (saved-length (length cards))
             ]

@@ -1,4 +1,4 @@
--- The arrays of the pass hold the tables of crates/onepass, turn by turn, and at the end greedyWriting's plan.
+-- The arrays of the pass hold the tables of crates/greedy_pass, turn by turn, and at the end greedyWriting's plan.
 -- Assumes nothing.
 use Prim.Native.Nat.{ℕ, suc, _+_, _-_, _≤_, _<_, max, zero-le}
 use mathlib.Core.Path.{_≡_, refl, sym, ap, _∙_}
@@ -8,19 +8,19 @@ use native.Mathlib.Omega.{arith}
 use native.Mathlib.Numerals.{add-one}
 use lib.ListN.{length, getD, take, drop, set, replicate, length-replicate, length-set, take-append-drop}
 use lib.Seq.{getD-set-same, getD-set-other, drop-set-lt, getD-take, length-take-le}
-use Rattle.schedule.specs.Count.{largest, written}
+use Rattle.counting.specs.Count.{largest, written}
 use Rattle.schedule.specs.Greedy.{greedyWriting}
-use Rattle.schedule.proofs.Lists.{getD-zeros, le-largest, largest-met}
+use Rattle.counting.proofs.Lists.{getD-zeros, le-largest, largest-met}
 use Rattle.header.specs.Limits.{maxCards, maxFrames}
-use Rattle.onepass.proofs.Shown.{Top}
-use Rattle.onepass.proofs.Process.{Saved, Ready}
-use Rattle.onepass.proofs.Process as process
-use Rattle.planner.specs.Pass.{turned, place, Asked, Passed}
+use Rattle.greedy_pass.proofs.Shown.{Top}
+use Rattle.greedy_pass.proofs.Process.{Saved, Ready}
+use Rattle.greedy_pass.proofs.Process as process
+use Rattle.planner.specs.Pass.{turned, takenAt, Asked, Passed}
 use Rattle.planner.proofs.Turned.{place-lt, place-apart, length-turned, turned-turned, getD-turned}
 
 -- the cycle of the frame taken i-th, and an entry of an array
 abbrev cycleAt : Bool → ℕ → List ℕ → ℕ → ℕ
-cycleAt back n out i = getD out (place back n i) 0
+cycleAt back n out i = getD out (takenAt back n i) 0
 
 abbrev entry : List ℕ → ℕ → ℕ
 entry l i = getD l i 0
@@ -89,7 +89,7 @@ module _ {m : ℕ} {back : Bool} {cards out₀ out due latest : List ℕ} {made 
       cycle-made = opened (process.pool-full (v .saved) (f .pool) full (omega (arith, f .few)))
 
     -- the next frame, at place i and of card c, enters with cycle s
-    module _ {made′ waiting′ : ℕ} (o : Open m back cards out due latest made′ waiting′ k) {i : ℕ} (i-is : i ≡ place back (length cards) k) where
+    module _ {made′ waiting′ : ℕ} (o : Open m back cards out due latest made′ waiting′ k) {i : ℕ} (i-is : i ≡ takenAt back (length cards) k) where
       i-inside : i < length cards
       i-inside = rw i-is (place-lt back (length cards) k l)
 
@@ -111,7 +111,7 @@ module _ {m : ℕ} {back : Bool} {cards out₀ out due latest : List ℕ} {made 
               saved =
                   rw (add-one k)
                   (process.enters (o .ready)
-                  (λ j g. getD-set-other out i (place back (length cards) j) s 0 (λ e. place-apart back (length cards) j k g l (e ∙ i-is)))
+                  (λ j g. getD-set-other out i (takenAt back (length cards) j) s 0 (λ e. place-apart back (length cards) j k g l (e ∙ i-is)))
                   (cycle-is ∙ rw card-is s-is)
                   (rw (card-is, cycle-is) (getD-set-same latest c s 0 (omega (arith, c-is, f .each-card i i-inside, v .long-latest))))
                   (λ x g. getD-set-other latest c x s 0 (λ e. g (e ∙ sym card-is)))
@@ -144,7 +144,7 @@ module _ {m : ℕ} {back : Bool} {cards out₀ out due latest : List ℕ} {made 
         (λ i h.
         let q : i < length cards = omega (arith, length-turned back cards) in
         getD-turned back front i (omega (arith, front-length))
-        ∙ rw front-length (getD-take (length cards) out (place back (length cards) i) 0 (place-lt back (length cards) i q)))
+        ∙ rw front-length (getD-take (length cards) out (takenAt back (length cards) i) 0 (place-lt back (length cards) i q)))
 
     filled : out ≡ written (turned back (greedyWriting m list .cycles)) out₀
     filled =

@@ -6,14 +6,14 @@ use mathlib.Core.Bool.{Bool, true, false}
 use mathlib.Core.List.{List, reverse-reverse}
 use native.Mathlib.Omega.{arith}
 use lib.ListN.{length, getD, length-reverse}
-use Rattle.schedule.proofs.Lists.{reverse-getD}
-use Rattle.planner.specs.Pass.{turned, place}
+use Rattle.counting.proofs.Lists.{reverse-getD}
+use Rattle.planner.specs.Pass.{turned, takenAt}
 
-pub place-lt : (back : Bool) (n k : ℕ) → k < n → place back n k < n
+pub place-lt : (back : Bool) (n k : ℕ) → k < n → takenAt back n k < n
 place-lt true n k h = omega arith
 place-lt false n k h = h
 
-pub place-apart : (back : Bool) (n i k : ℕ) → i < k → k < n → place back n i ≡ place back n k → ⊥
+pub place-apart : (back : Bool) (n i k : ℕ) → i < k → k < n → takenAt back n i ≡ takenAt back n k → ⊥
 place-apart true n i k h g e = omega arith
 place-apart false n i k h g e = omega arith
 
@@ -25,6 +25,6 @@ pub turned-turned : (back : Bool) (l : List ℕ) → turned back (turned back l)
 turned-turned true l = reverse-reverse l
 turned-turned false l = refl
 
-pub getD-turned : (back : Bool) (l : List ℕ) (i : ℕ) → i < length l → getD (turned back l) i 0 ≡ getD l (place back (length l) i) 0
+pub getD-turned : (back : Bool) (l : List ℕ) (i : ℕ) → i < length l → getD (turned back l) i 0 ≡ getD l (takenAt back (length l) i) 0
 getD-turned true l i h = reverse-getD l i h
 getD-turned false l i h = refl

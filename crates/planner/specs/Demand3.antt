@@ -7,7 +7,7 @@ use mathlib.Core.Path.{_≡_}
 use mathlib.Core.List.{List}
 use lib.ListN.{length, take}
 use Rattle.schedule.specs.Demand.{SaveDemand, ReadDemand}
-use Rattle.header.specs.Limits.{read, save}
+use Rattle.header.specs.Limits.{modeRead, modeSave}
 use Rattle.header.specs.declared.Header.{Header}
 use Rattle.ticket.specs.Ticket.{accepted, parse}
 
@@ -16,10 +16,10 @@ pub record Demand3 (text : List ℕ) (refusal T : ℕ) (buffer : List ℕ) : Typ
   -- rule, hands over everything in exactly the T answered and never holds more than the pool; and EVERY list of reads, drops and ends
   -- that hands everything over needs T cycles or more.
   pub read-plan :
-      (h : Header) (cards : List ℕ) → parse text ≡ accepted h cards → h .mode ≡ read → length cards ≤ length buffer
+      (h : Header) (cards : List ℕ) → parse text ≡ accepted h cards → h .mode ≡ modeRead → length cards ≤ length buffer
       → (refusal ≡ 0) × ReadDemand (h .pool) cards (take (length cards) buffer) T
   -- For every accepted save ticket and a buffer with room for it: the plan that now stands in the buffer is a correct schedule of the T
   -- cycles answered, and every correct schedule is at least as long.
   pub save-plan :
-      (h : Header) (cards : List ℕ) → parse text ≡ accepted h cards → h .mode ≡ save → length cards ≤ length buffer
+      (h : Header) (cards : List ℕ) → parse text ≡ accepted h cards → h .mode ≡ modeSave → length cards ≤ length buffer
       → (refusal ≡ 0) × SaveDemand (h .pool) cards (take (length cards) buffer) T

@@ -1,7 +1,7 @@
 -- The numbers of each case of the planner's answer (document 01, "Grounds for turning a ticket or call down").
 -- Assumes nothing.
 use Prim.Native.Nat.{ℕ}
-use Rattle.schedule.specs.declared.Cycle.{Cycle}
+use Rattle.counting.specs.declared.Cycle.{Cycle}
 use Rattle.planner.specs.declared.Answer.{Answer}
 use Rattle.planner.specs.declared.Answer.the-variants.{Planned, Refused}
 

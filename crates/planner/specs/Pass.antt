@@ -5,11 +5,11 @@ use mathlib.Core.Path.{_≡_}
 use mathlib.Core.Bool.{Bool, true, false}
 use mathlib.Core.List.{List, _++_, map, reverse}
 use lib.ListN.{length, take, drop}
-use Rattle.schedule.specs.Count.{written}
-use Rattle.schedule.specs.Schedule.{cardOf}
+use Rattle.counting.specs.Count.{written}
+use Rattle.counting.specs.Frames.{cardOf}
 use Rattle.schedule.specs.Greedy.{Plan, saveAndKeep, greedyWriting}
 use Rattle.header.specs.Limits.{maxCards, maxFrames}
-use Rattle.onepass.specs.AsOf.{asOf}
+use Rattle.greedy_pass.specs.AsOf.{asOf}
 
 -- a list taken from its back, or from its front
 abbrev pub turned : Bool → List ℕ → List ℕ
@@ -17,9 +17,9 @@ turned true l = reverse l
 turned false l = l
 
 -- where the element stands that is taken k-th
-abbrev pub place : Bool → ℕ → ℕ → ℕ
-place true n k = n - suc k
-place false n k = k
+abbrev pub takenAt : Bool → ℕ → ℕ → ℕ
+takenAt true n k = n - suc k
+takenAt false n k = k
 
 -- f of the first n elements; the others as they are
 abbrev pub onFirst : (ℕ → ℕ) → ℕ → List ℕ → List ℕ

@@ -7,22 +7,22 @@ use mathlib.Core.Bool.{cond}
 use mathlib.Core.List.{List}
 use lib.Dec.{eqb, ltb}
 use lib.ListN.{length}
-use Rattle.schedule.specs.Count.{written}
+use Rattle.counting.specs.Count.{written}
 use Rattle.schedule.specs.Greedy.{Plan, saveAndKeep, greedyWriting, lazyPrefetching}
-use Rattle.header.specs.Limits.{read, save}
+use Rattle.header.specs.Limits.{modeRead, modeSave}
 use Rattle.ticket.specs.Ticket.{Parsed, accepted, refused}
 use Rattle.planner.specs.declared.Answer.{Answer}
 use Rattle.planner.specs.declared.Answer.the-variants.{Planned, Refused}
 
 -- "Modes: 00 read; 01 save; 02 save and keep."
 abbrev pub planFor : ℕ → ℕ → List ℕ → Plan
-planFor mode m cards = cond (eqb mode read) (lazyPrefetching m cards) (cond (eqb mode save) (greedyWriting m cards) (saveAndKeep m cards))
+planFor mode m cards = cond (eqb mode modeRead) (lazyPrefetching m cards) (cond (eqb mode modeSave) (greedyWriting m cards) (saveAndKeep m cards))
 
 -- "plan buffer has fewer than L places": 10, after the ticket's own
-unfoldable pub answerTo : Parsed → ℕ → Answer
-answerTo (accepted h cards) places =
+unfoldable pub planOf : Parsed → ℕ → Answer
+planOf (accepted h cards) places =
     cond (ltb places (length cards)) (Refused 10) (Planned (record { 0 = planFor (h .mode) (h .pool) cards .T }))
-answerTo (refused k) places = Refused k
+planOf (refused k) places = Refused k
 
 -- The buffer afterwards: "A plan fills the first L places, and later places keep their content." A refusal changes nothing.
 unfoldable pub bufferAfter : Parsed → List ℕ → List ℕ
@@ -32,5 +32,5 @@ bufferAfter (refused k) before = before
 
 -- What one call did: the answer and the buffer, both equal to the definitions above.
 pub record Answered (ticket : Parsed) (before after : List ℕ) (r : Answer) : Type 0 where
-  pub answer : r ≡ answerTo ticket (length before)
+  pub answer : r ≡ planOf ticket (length before)
   pub buffer : after ≡ bufferAfter ticket before

@@ -3,7 +3,7 @@ ghost use mathlib.Core.Path.{_≡_};
 ghost use lib.ListN.{length, take};
 ghost use Rattle.ticket.specs.Ticket.{accepted, parse};
 ghost use Rattle.ticket.specs.Grounds.{Fits};
-ghost use Rattle.planner.specs.Plan.{answerTo, bufferAfter, Answered};
+ghost use Rattle.planner.specs.Plan.{planOf, bufferAfter, Answered};
 ghost use Rattle.planner.specs.Numbers.{numbersOf};
 ghost use Rattle.planner.specs.Demand3.{Demand3};
 
@@ -11,7 +11,7 @@ mod modes;
 mod pass;
 
 use header::Header;
-use schedule::Cycle;
+use counting::Cycle;
 
 // A plan of T cycles, or the number of a refusal.
 pub enum Answer {
@@ -34,9 +34,9 @@ fn plan_list(h: Header, card: &[u8], out: &mut [u16]) -> Answer
 // Plans a ticket: fills the first places of the buffer with each frame's cycle and answers T; later places keep their content.
 // A refusal changes nothing. `demand` is demand 3, about the T answered and the plan that now stands in the buffer.
 pub fn plan(ticket: &[u8], out: &mut [u16]) -> Answer
-    ensures answer { λ r. ⌜ r ≡ answerTo (parse (now (ticket .entry))) (length (now (out .entry))) ⌝ }
+    ensures answer { λ r. ⌜ r ≡ planOf (parse (now (ticket .entry))) (length (now (out .entry))) ⌝ }
     ensures buffer { λ r. ⌜ now (out .exit) ≡ bufferAfter (parse (now (ticket .entry))) (now (out .entry)) ⌝ }
-    ensures numbers { λ r. ⌜ numbersOf r ≡ numbersOf (answerTo (parse (now (ticket .entry))) (length (now (out .entry)))) ⌝ }
+    ensures numbers { λ r. ⌜ numbersOf r ≡ numbersOf (planOf (parse (now (ticket .entry))) (length (now (out .entry)))) ⌝ }
     ensures demand { λ r. ⌜ Demand3 (now (ticket .entry)) (numbersOf r .refusal) (numbersOf r .cycles .0) (now (out .exit)) ⌝ }
 {
     let read = ticket::parse(ticket);

@@ -3,12 +3,12 @@ ghost use mathlib.Core.Path.{_≡_};
 ghost use Prim.Native.Nat.{ℕ, _+_, _-_, _≤_, _<_};
 ghost use lib.ListN.{length, getD};
 ghost use Rattle.schedule.specs.Greedy.{greedyWriting, saveAndKeep, lazyPrefetching};
-ghost use Rattle.onepass.specs.AsOf.{asOf};
+ghost use Rattle.greedy_pass.specs.AsOf.{asOf};
 ghost use Rattle.planner.specs.Pass.{Asked, onFirst, Filled};
 ghost use Rattle.planner.specs.Plan.{planFor};
 use crate::pass;
 use header::limits;
-use schedule::Cycle;
+use counting::Cycle;
 
 // Cycle c of a schedule of t cycles becomes t − c + 1, at the first n places.
 fn turn_round(out: &mut [u16], n: usize, t: Cycle)
@@ -74,10 +74,10 @@ pub(crate) fn fill(mode: u8, cards: &[u8], m: u16, out: &mut [u16]) -> Cycle
     requires { ⌜ Asked m (now cards) (now out) ⌝ }
     ensures { λ r. ⌜ Filled (planFor mode m (now (cards .entry))) (now (out .entry)) (now (out .exit)) (r .0) ⌝ }
 {
-    if mode == limits::READ {
+    if mode == limits::MODE_READ {
         return read_plan(cards, m, out);
     }
-    if mode == limits::SAVE {
+    if mode == limits::MODE_SAVE {
         return save_plan(cards, m, out);
     }
     keep_plan(cards, m, out)

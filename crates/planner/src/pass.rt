@@ -2,22 +2,10 @@
 ghost use mathlib.Core.Path.{_≡_};
 ghost use Prim.Native.Nat.{_+_, _≤_, _<_, max};
 ghost use lib.ListN.{length};
-ghost use Rattle.schedule.specs.Count.{largest};
+ghost use Rattle.counting.specs.Count.{largest};
 ghost use Rattle.header.specs.Limits.{maxCards};
-ghost use Rattle.planner.specs.Pass.{place, Asked, Passed};
-use schedule::Cycle;
-
-fn cycle_place(cycle: Cycle) -> usize
-    ensures { λ r. ⌜ r ≡ cycle .0 ⌝ }
-{
-    cycle.0 as usize
-}
-
-fn card_place(card: u8) -> usize
-    ensures { λ r. ⌜ r ≡ card ⌝ }
-{
-    card as usize
-}
+ghost use Rattle.planner.specs.Pass.{takenAt, Asked, Passed};
+use counting::Cycle;
 
 // The cycle of a frame that enters: the first that its card has free, after the cycles made.
 fn next_cycle(latest: Cycle, made: Cycle) -> Cycle
@@ -32,9 +20,9 @@ fn next_cycle(latest: Cycle, made: Cycle) -> Cycle
 }
 
 // Where the frame stands that is taken k-th, from the front or from the back of a list of n.
-fn place_of(back: bool, n: usize, k: usize) -> usize
+fn taken_at(back: bool, n: usize, k: usize) -> usize
     requires { ⌜ k < n ⌝ }
-    ensures { λ r. ⌜ (r ≡ place back n k) × (r < n) ⌝ }
+    ensures { λ r. ⌜ (r ≡ takenAt back n k) × (r < n) ⌝ }
 {
     if back { n - 1 - k } else { k }
 }
@@ -79,13 +67,13 @@ pub(crate) fn pass(cards: &[u8], m: u16, back: bool, out: &mut [u16]) -> Cycles
     while k < n {
         if m <= waiting {
             made.0 += 1;
-            waiting -= due[cycle_place(made)];
+            waiting -= due[counting::cycle_index(made)];
         }
-        let i = place_of(back, n, k);
-        let c = card_place(cards[i]);
+        let i = taken_at(back, n, k);
+        let c = counting::card_index(cards[i]);
         let last = latest[c];
         let s = next_cycle(Cycle(last), made);
-        let u = cycle_place(s);
+        let u = counting::cycle_index(s);
         latest[c] = s.0;
         due[u] = due[u] + 1;
         out[i] = s.0;

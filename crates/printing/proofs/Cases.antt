@@ -5,11 +5,11 @@ use mathlib.Core.List.{map}
 use Rattle.schedule.specs.Greedy.{saveAndKeep, greedyWriting, lazyPrefetching}
 use Rattle.text.specs.Text.{digit, digits, number, isLine}
 use Rattle.text.specs.Hex.{digitOf, hex}
-use Rattle.header.specs.Heading.{headerOf, judge, heading}
+use Rattle.header.specs.Heading.{headerOf, withinLimits, heading}
 use Rattle.ticket.specs.Ticket.{cardAt, lineFault, linesFault, partFault, parse}
 use Rattle.printing.specs.Printed.{frameLines, planText, refusalText, textOf}
 use Rattle.printing.specs.Cases.{Case, cases}
 
 pub texts-hold : map (λ (c : Case). c .text) cases ≡ map (λ (c : Case). c .expected) cases
-unfolding cases textOf refusalText planText frameLines lazyPrefetching saveAndKeep greedyWriting digit digits number isLine digitOf hex headerOf judge heading cardAt lineFault linesFault partFault parse
+unfolding cases textOf refusalText planText frameLines lazyPrefetching saveAndKeep greedyWriting digit digits number isLine digitOf hex headerOf withinLimits heading cardAt lineFault linesFault partFault parse
 texts-hold = refl

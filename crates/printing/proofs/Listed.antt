@@ -8,7 +8,8 @@ use native.Mathlib.Numerals.{add-one}
 use lib.ListN.{length, getD, take, drop, set, length-set, length-append}
 use lib.Seq.{sets, drop-cons, getD-take}
 use borrow.Author.Tests.{lt-ltb}
-use Rattle.schedule.specs.Schedule.{cardOf, cycleOf}
+use Rattle.counting.specs.Frames.{cardOf}
+use Rattle.schedule.specs.Schedule.{cycleOf}
 use Rattle.schedule.specs.Greedy.{Plan}
 use Rattle.text.specs.Hex.{hex, endOfLine}
 use Rattle.text.proofs.Hex.{length-hex}

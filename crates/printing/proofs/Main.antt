@@ -5,7 +5,7 @@ use mathlib.Core.Path.{_≡_, ap}
 use mathlib.Core.List.{List, map}
 use native.Mathlib.Omega.{arith}
 use lib.ListN.{length, take}
-use Rattle.schedule.specs.Count.{written}
+use Rattle.counting.specs.Count.{written}
 use Rattle.ticket.proofs.Main as ticket
 use Rattle.printing.specs.Printed.{textOf, printed, bytesIn, bufferAfter}
 use Rattle.printing.specs.Sizes.{inputBytes, longestText}

@@ -9,7 +9,7 @@ use lib.Seq.{sets, sets-eq, length-take-le}
 use native.Mathlib.Omega.{arith}
 use native.Mathlib.Nat.{zero-add}
 use borrow.Author.Tests.{le-leb, lt-leb}
-use Rattle.schedule.proofs.Bits.{by-cases}
+use Rattle.counting.proofs.Bits.{by-cases}
 use Rattle.printing.specs.Printed.{bytesIn, bufferAfter, Front}
 use Rattle.printing.specs.Put.{Put}
 

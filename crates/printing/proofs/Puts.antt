@@ -7,7 +7,7 @@ use native.Mathlib.Omega.{arith}
 use native.Mathlib.Numerals.{add-one}
 use lib.ListN.{length, getD, set, length-set, length-append}
 use lib.Seq.{sets, length-sets}
-use Rattle.schedule.proofs.Lists.{getD-tabulate}
+use Rattle.counting.proofs.Lists.{getD-tabulate}
 use Rattle.text.proofs.Hex.{length-hex}
 use Rattle.text.specs.Hex.{digitOf, hex, endOfLine}
 use Rattle.text.specs.Text.{endByte}

@@ -6,7 +6,7 @@ use mathlib.Core.List.{List}
 use native.Mathlib.Omega.{arith}
 use lib.ListN.{length}
 use borrow.Author.Tests.{le-leb}
-use Rattle.schedule.specs.Count.{written}
+use Rattle.counting.specs.Count.{written}
 use Rattle.ticket.specs.Ticket.{Parsed, accepted, refused, parse}
 use Rattle.ticket.proofs.Main as ticket
 use Rattle.planner.specs.Plan.{planFor}

@@ -7,8 +7,9 @@ use mathlib.Core.Bool.{cond}
 use mathlib.Core.List.{List, [], _++_}
 use lib.Dec.{leb}
 use lib.ListN.{length, take}
-use Rattle.schedule.specs.Count.{written}
-use Rattle.schedule.specs.Schedule.{cardOf, cycleOf}
+use Rattle.counting.specs.Count.{written}
+use Rattle.counting.specs.Frames.{cardOf}
+use Rattle.schedule.specs.Schedule.{cycleOf}
 use Rattle.schedule.specs.Greedy.{Plan}
 use Rattle.text.specs.Hex.{hex, endOfLine}
 use Rattle.ticket.specs.Ticket.{Parsed, accepted, refused, lineDigits, parse}

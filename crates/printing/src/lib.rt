@@ -1,7 +1,7 @@
 // The printed plan of a ticket, as text in a lent buffer.
 ghost use mathlib.Core.Path.{_≡_};
 ghost use lib.ListN.{length, replicate};
-ghost use Rattle.schedule.specs.Count.{written};
+ghost use Rattle.counting.specs.Count.{written};
 ghost use Rattle.printing.specs.Printed.{printed, bytesIn, bufferAfter, Front};
 ghost use Rattle.printing.specs.Sizes.{inputBytes, longestText};
 

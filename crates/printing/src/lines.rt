@@ -8,8 +8,8 @@ ghost use Rattle.text.specs.Hex.{hex, endOfLine};
 ghost use Rattle.printing.specs.Printed.{printed, refusalText};
 ghost use Rattle.printing.specs.Put.{digitTexts, Made, Put};
 use crate::digits;
-use schedule::Cycle;
-use schedule::Position;
+use counting::Cycle;
+use counting::Position;
 
 // FF and the number.
 pub(crate) fn refusal(number: u8, out: &mut [u8]) -> usize

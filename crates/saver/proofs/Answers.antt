@@ -6,7 +6,7 @@ use mathlib.Core.Bool.{true, false}
 use native.Mathlib.Omega.{arith}
 use lib.Dec.{eqb, ltb}
 use borrow.Author.Tests.{eq-eqb, ne-eqb, eqb-true, eqb-false, lt-ltb, le-ltb, ltb-true, ltb-false}
-use Rattle.schedule.proofs.Bits.{by-test}
+use Rattle.counting.proofs.Bits.{by-test}
 use Rattle.header.specs.Limits.{maxFrames}
 use Rattle.saver.specs.declared.Saver.{Saver}
 use Rattle.saver.specs.declared.Answer.{Answer}

@@ -7,17 +7,17 @@ use native.Mathlib.Omega.{arith}
 use native.Mathlib.Decide.{ℕ-discrete}
 use lib.ListN.{getD, drop}
 use borrow.Author.Tests.{eq-eqb, ne-eqb}
-use Rattle.schedule.specs.Schedule.{cardOf}
+use Rattle.counting.specs.Frames.{cardOf}
 use Rattle.schedule.specs.Greedy.{Plan, oneCycle}
 use Rattle.schedule.specs.Greedy as greedy
 use Rattle.header.specs.Limits.{maxCards}
-use Rattle.waiting.specs.Log.{logOf}
-use Rattle.waiting.proofs.Saves.{cycle-logged, save-logged}
+use Rattle.greedy_pool.specs.Log.{logOf}
+use Rattle.greedy_pool.proofs.Saves.{cycle-logged, save-logged}
 use Rattle.saver.specs.declared.Saver.{Saver}
 use Rattle.saver.specs.declared.Answer.{Answer}
 use Rattle.saver.specs.Calls.{saveOf, closeOf}
 use Rattle.saver.specs.Formed.{Formed}
-use Rattle.saver.specs.Follows.{Shows, Tells}
+use Rattle.saver.specs.Follows.{ShowsPlan, Tells}
 use Rattle.saver.specs.Runs.{Call, save, close, after, logged, log, accepted}
 use Rattle.saver.proofs.Tables.{drop-head}
 use Rattle.saver.proofs.Answers.{save-cases, close-cases}
@@ -39,7 +39,7 @@ close-taken s = close-cases s (λ (r : Answer). r .saver .taken ≡ s .taken) (�
 module _ (list : List ℕ) where
   -- the record after the calls shows a plan with their log at the end of its own
   abbrev pub Shown : Plan → Saver → List (List ℕ) → Type 0
-  Shown p s entries = (q : Plan) × (Shows list q s) × (logOf list q ≡ logOf list p ++ entries)
+  Shown p s entries = (q : Plan) × (ShowsPlan list q s) × (logOf list q ≡ logOf list p ++ entries)
 
   -- a call that is refused
   refused-shown : (p : Plan) (s : Saver) (r : Answer) (calls : List Call) → Kept s r → Shown p (after s calls) (log s calls)
@@ -52,7 +52,7 @@ module _ (list : List ℕ) where
   told-shown p q r calls e v =
       (v .0, v .1, v .2 ∙ ap (λ l. l ++ log (r .saver) calls) e ∙ append-assoc (logOf list p) (logged r) (log (r .saver) calls))
 
-  pub calls-shown : (calls : List Call) (s : Saver) (p : Plan) → Formed s → Shows list p s → drop (s .taken) list ≡ accepted s calls
+  pub calls-shown : (calls : List Call) (s : Saver) (p : Plan) → Formed s → ShowsPlan list p s → drop (s .taken) list ≡ accepted s calls
       → Shown p (after s calls) (log s calls)
   calls-shown [] s p f v e = (p, v, sym (append-nil (logOf list p)))
   calls-shown (save card ∷ calls) s p f v e =
@@ -60,10 +60,10 @@ module _ (list : List ℕ) where
         | yes z ↦
             (let h : (getD list (s .taken) 0 ≡ card) × (drop (s .taken + 1) list ≡ accepted (saveOf s card .saver) calls) =
             drop-head list (s .taken) card (accepted (saveOf s card .saver) calls) (rw (eq-eqb (saveOf s card .refusal) 0 z) at e) in
-            let t : Tells list p (greedy.save list (s .pool) p) (saveOf s card) = save-follows s card f .follows list p v (h .0) z in
-            told-shown p (greedy.save list (s .pool) p) (saveOf s card) calls
-            (tells-logged list p (greedy.save list (s .pool) p) (saveOf s card) t (save-logged list (s .pool) p))
-            (calls-shown calls (saveOf s card .saver) (greedy.save list (s .pool) p) (formed-save s card f) (t .shows)
+            let t : Tells list p (greedy.saveFrame list (s .pool) p) (saveOf s card) = save-follows s card f .follows list p v (h .0) z in
+            told-shown p (greedy.saveFrame list (s .pool) p) (saveOf s card) calls
+            (tells-logged list p (greedy.saveFrame list (s .pool) p) (saveOf s card) t (save-logged list (s .pool) p))
+            (calls-shown calls (saveOf s card .saver) (greedy.saveFrame list (s .pool) p) (formed-save s card f) (t .shows)
             (rw (save-taken s card z) (h .1))))
         | no z ↦
             refused-shown p s (saveOf s card) calls (save-kept s card z)

@@ -10,10 +10,10 @@ use lib.Dec.{leb}
 use lib.ListN.{length, getD, drop, set, replicate, length-set, length-append, length-drop, length-replicate, length-map, List·getD-append}
 use lib.Seq.{getD-set-same, getD-set-other}
 use borrow.Author.Tests.{leb-true}
-use Rattle.schedule.specs.Count.{written}
-use Rattle.schedule.proofs.Bits.{by-test, and-left, and-right}
+use Rattle.counting.specs.Count.{written}
+use Rattle.counting.proofs.Bits.{by-test, and-left, and-right}
 use Rattle.header.specs.Limits.{maxCards, maxPool, maxFrames}
-use Rattle.waiting.proofs.Left.{left-shorter, left-same-length, left-all}
+use Rattle.greedy_pool.proofs.Left.{left-shorter, left-same-length, left-all}
 use Rattle.saver.specs.declared.Saver.{Saver}
 use Rattle.saver.specs.declared.Answer.{Answer}
 use Rattle.saver.specs.Calls.{position, numbers, newSaver, noSaver, entered, cardsLeft, positionsLeft, afterCycle, closingBegun}

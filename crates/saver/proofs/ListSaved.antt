@@ -9,17 +9,17 @@ use native.Mathlib.Numerals.{add-one}
 use native.Mathlib.Decide.{decLt}
 use lib.ListN.{length, getD, drop, replicate}
 use borrow.Author.Tests.{ne-eqb}
-use Rattle.schedule.specs.Schedule.{cardOf}
+use Rattle.counting.specs.Frames.{cardOf}
 use Rattle.schedule.specs.Greedy.{Plan, inPool, oneCycle, saveFirst, flush}
 use Rattle.schedule.specs.Greedy as greedy
 use Rattle.header.specs.Limits.{maxFrames}
-use Rattle.waiting.specs.Log.{logOf}
-use Rattle.waiting.proofs.Saves.{cycle-logged, save-logged, flush-empty}
+use Rattle.greedy_pool.specs.Log.{logOf}
+use Rattle.greedy_pool.proofs.Saves.{cycle-logged, save-logged, flush-empty}
 use Rattle.saver.specs.declared.Saver.{Saver}
 use Rattle.saver.specs.declared.Answer.{Answer}
 use Rattle.saver.specs.Calls.{closingBegun, saveOf, closeOf}
 use Rattle.saver.specs.Formed.{Formed}
-use Rattle.saver.specs.Follows.{Shows, Tells}
+use Rattle.saver.specs.Follows.{ShowsPlan, Tells}
 use Rattle.saver.specs.Runs.{save, close, after, logged, log}
 use Rattle.saver.proofs.Tables.{drop-head}
 use Rattle.saver.proofs.Answers.{save-cases, close-empty, close-cycles}
@@ -34,20 +34,20 @@ module _ (list : List ℕ) where
 
   -- k closing cycles; those asked of an empty pool are refused
   pub record Closed (k : ℕ) (p : Plan) (s : Saver) : Type 0 where
-    pub shows : Shows list (flush list k p) (after s (replicate k close))
+    pub shows : ShowsPlan list (flush list k p) (after s (replicate k close))
     pub logs : logOf list (flush list k p) ≡ logOf list p ++ log s (replicate k close)
 
   stays : (s : Saver) → s .waiting < 1 → closeOf s .saver ≡ s
   stays s l = ap (λ (r : Answer). r .saver) (close-empty s l)
 
-  refused-shows : (q : Plan) (k : ℕ) (s : Saver) → s .waiting < 1 → Shows list q (after s (replicate k close))
-      → Shows list q (after s (replicate (suc k) close))
-  refused-shows q k s l v = subst (λ (x : Saver). Shows list q (after x (replicate k close))) (sym (stays s l)) v
+  refused-shows : (q : Plan) (k : ℕ) (s : Saver) → s .waiting < 1 → ShowsPlan list q (after s (replicate k close))
+      → ShowsPlan list q (after s (replicate (suc k) close))
+  refused-shows q k s l v = subst (λ (x : Saver). ShowsPlan list q (after x (replicate k close))) (sym (stays s l)) v
 
   refused-logs : (k : ℕ) (s : Saver) → s .waiting < 1 → log s (replicate (suc k) close) ≡ log s (replicate k close)
   refused-logs k s l = ap (λ (r : Answer). logged r ++ log (r .saver) (replicate k close)) (close-empty s l)
 
-  pub closed : (k : ℕ) (p : Plan) (s : Saver) → Formed s → Shows list p s → Closed k p s
+  pub closed : (k : ℕ) (p : Plan) (s : Saver) → Formed s → ShowsPlan list p s → Closed k p s
   closed zero p s f v = record { shows = v; logs = sym (append-nil (logOf list p)) }
   closed (suc k) p s f v =
       elim (decLt (s .waiting) 1) [
@@ -92,7 +92,7 @@ module _ (list : List ℕ) where
       pub not-closing : s .closing ≡ false
       pub pool : s .pool ≡ m
       pub cards : s .cards ≡ D
-      pub shows : Shows list (saveFirst list m n) s
+      pub shows : ShowsPlan list (saveFirst list m n) s
       pub taken : s .taken ≡ n
 
     -- what the next save keeps
@@ -118,7 +118,7 @@ module _ (list : List ℕ) where
     saved-next n s b l =
         let k : Keeps n (saveOf s (cardOf list n)) = save-keeps n s b l in
         let t : Tells list (plan n) (plan (suc n)) (saveOf s (cardOf list n)) =
-        subst (λ (x : ℕ). Tells list (plan n) (greedy.save list x (plan n)) (saveOf s (cardOf list n))) (b .pool)
+        subst (λ (x : ℕ). Tells list (plan n) (greedy.saveFrame list x (plan n)) (saveOf s (cardOf list n))) (b .pool)
         (save-follows s (cardOf list n) (b .formed) .follows list (plan n) (b .shows) (ap (cardOf list) (b .taken)) (k .0)) in (
           record {
             formed = formed-save s (cardOf list n) (b .formed);

@@ -1,19 +1,20 @@
 -- The saver's theorems: saving a list and closing until the pool is empty writes exactly what its save plan says, in the fewest cycles there
 -- are; and whatever calls are made, the pool is never over m, nothing is written twice and nothing is lost. The definitions are in specs/: Calls,
--- Follows, Runs; what a plan writes, cycle by cycle and card by card, is `logOf` (crates/waiting/specs/Log.antt).
+-- Follows, Runs; what a plan writes, cycle by cycle and card by card, is `logOf` (crates/greedy_pool/specs/Log.antt).
 -- Assumes nothing.
 use Prim.Native.Nat.{ℕ, _+_, _≤_, _<_}
 use mathlib.Core.Path.{_≡_, sym}
 use mathlib.Core.List.{List, map}
 use lib.ListN.{length, take}
-use Rattle.schedule.specs.Schedule.{cardOf, cyclesIn, CorrectSave}
-use Rattle.schedule.specs.Greedy.{empty, saveAndKeep, greedyWriting}
+use Rattle.counting.specs.Frames.{cardOf}
+use Rattle.schedule.specs.Schedule.{cyclesIn, CorrectSave}
+use Rattle.schedule.specs.Greedy.{emptyPlan, saveAndKeep, greedyWriting}
 use Rattle.schedule.proofs.Main.{save-fewest}
 use Rattle.header.specs.Limits.{maxCards, maxPool, maxFrames, Within}
-use Rattle.waiting.specs.Log.{logOf, times, timesIn}
+use Rattle.greedy_pool.specs.Log.{logOf, times, timesIn}
 use Rattle.saver.specs.declared.Saver.{Saver}
 use Rattle.saver.specs.Calls.{numbers, newOf, saveOf, closeOf, Given}
-use Rattle.saver.specs.Follows.{SaveFollows, CloseFollows, Shows}
+use Rattle.saver.specs.Follows.{SaveFollows, CloseFollows, ShowsPlan}
 use Rattle.saver.specs.Runs.{Call, save, after, log, savedAndClosed}
 use Rattle.saver.proofs.Opening as opening
 use Rattle.saver.proofs.Forming.{given-formed}
@@ -66,7 +67,7 @@ each-once = whole.each-once
 
 -- A new saver shows greedyWriting's plan of no frames, and each call's record the plan of the next step: so the clause `greedy` of the calls'
 -- contracts holds from the first call on.
-pub new-shows : (list : List ℕ) (cards m : ℕ) → Shows list empty (newOf cards m .saver)
+pub new-shows : (list : List ℕ) (cards m : ℕ) → ShowsPlan list emptyPlan (newOf cards m .saver)
 new-shows = opening.new-shows
 
 pub save-follows : (s : Saver) (card : ℕ) → Given s → SaveFollows s card (saveOf s card)

@@ -6,8 +6,8 @@ use mathlib.Core.Logic.{inl, inr, _≢_}
 use mathlib.Core.List.{List, [], _∷_, _++_, append-assoc, append-nil}
 use lib.Dec.{eqb·suc-zero}
 use Rattle.schedule.specs.Greedy.{Plan}
-use Rattle.waiting.specs.Log.{entriesOf, logOf}
-use Rattle.waiting.proofs.Saves.{Logged}
+use Rattle.greedy_pool.specs.Log.{entriesOf, logOf}
+use Rattle.greedy_pool.proofs.Saves.{Logged}
 use Rattle.saver.specs.declared.Saver.{Saver}
 use Rattle.saver.specs.declared.Answer.{Answer}
 use Rattle.saver.specs.Calls.{saveOf, closeOf}

@@ -6,19 +6,19 @@ use mathlib.Core.List.{List, map}
 use native.Mathlib.Omega.{arith}
 use lib.Dec.{ltb}
 use borrow.Author.Tests.{lt-ltb, le-ltb}
-use Rattle.schedule.specs.Schedule.{cardOf}
-use Rattle.schedule.specs.Greedy.{Plan, inPool, enter, oneCycle, save}
-use Rattle.waiting.proofs.Logs.{entries-enter}
+use Rattle.counting.specs.Frames.{cardOf}
+use Rattle.schedule.specs.Greedy.{Plan, inPool, enter, oneCycle, saveFrame}
+use Rattle.greedy_pool.proofs.Logs.{entries-enter}
 use Rattle.saver.specs.declared.Saver.{Saver}
 use Rattle.saver.specs.declared.Answer.{Answer}
 use Rattle.saver.specs.Calls.{position, quiet, entered, afterCycle, cycleOn, thenEnters, closingBegun, saveOf, closeOf, Given, saved, closed}
 use Rattle.saver.specs.Formed.{Formed, Room}
-use Rattle.saver.specs.Follows.{Shows, Tells, SaveFollows, CloseFollows}
+use Rattle.saver.specs.Follows.{ShowsPlan, Tells, SaveFollows, CloseFollows}
 use Rattle.saver.proofs.Answers.{save-cases, close-cases}
 use Rattle.saver.proofs.Forming.{formed-cycle, formed-closing, given-formed}
 use Rattle.saver.proofs.Following.{shows-entered, shows-cycle, entries-cycle}
 
-module _ (list : List ℕ) (p : Plan) (s : Saver) (f : Formed s) (v : Shows list p s) where
+module _ (list : List ℕ) (p : Plan) (s : Saver) (f : Formed s) (v : ShowsPlan list p s) where
   -- the frame enters
   tells-entered : (card : ℕ) → cardOf list (s .taken) ≡ card → s .waiting < s .pool → Tells list p (enter p) (quiet (entered s card))
   tells-entered card c room =
@@ -50,15 +50,15 @@ module _ (list : List ℕ) (p : Plan) (s : Saver) (f : Formed s) (v : Shows list
   step-room : ltb (s .waiting) (s .pool) ≡ ltb (inPool (p .cycles)) (s .pool)
   step-room = rw (v .waiting)
 
-  tells-save : (card : ℕ) → cardOf list (s .taken) ≡ card → saveOf s card .refusal ≡ 0 → Tells list p (save list (s .pool) p) (saveOf s card)
+  tells-save : (card : ℕ) → cardOf list (s .taken) ≡ card → saveOf s card .refusal ≡ 0 → Tells list p (saveFrame list (s .pool) p) (saveOf s card)
   tells-save card c =
-      save-cases s card (λ (r : Answer). r .refusal ≡ 0 → Tells list p (save list (s .pool) p) r)
+      save-cases s card (λ (r : Answer). r .refusal ≡ 0 → Tells list p (saveFrame list (s .pool) p) r)
       (λ a z. absurd (omega arith)) (λ b z. absurd (omega arith)) (λ d z. absurd (omega arith))
       (λ a b d e z. rw (← step-room, lt-ltb (s .waiting) (s .pool) e) (tells-entered card c e))
       (λ a b d e z. rw (← step-room, le-ltb (s .waiting) (s .pool) e) (tells-both card c (omega (arith, f .some-pool)) (f .in-pool)))
 
 -- closing changes nothing that a record shows
-shows-closing : {list : List ℕ} {p : Plan} {s : Saver} → Shows list p s → Shows list p (closingBegun s)
+shows-closing : {list : List ℕ} {p : Plan} {s : Saver} → ShowsPlan list p s → ShowsPlan list p (closingBegun s)
 shows-closing v =
     record { taken = v .taken; made = v .made; waiting = v .waiting; positions = v .positions; cards = v .cards; told = v .told }
 

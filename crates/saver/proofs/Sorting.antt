@@ -10,13 +10,13 @@ use native.Mathlib.Nat.{le-antisymm}
 use lib.Dec.{eqb}
 use lib.ListN.{length, getD, set, replicate, length-append, length-replicate, List·getD-map}
 use borrow.Author.Tests.{eq-eqb, ne-eqb}
-use Rattle.schedule.specs.Count.{tabulate, written}
-use Rattle.schedule.specs.Schedule.{cardOf}
-use Rattle.schedule.specs.declared.Position.{Position}
-use Rattle.schedule.proofs.Lists.{getD-tabulate, tabulate-cong, set-tabulate}
+use Rattle.counting.specs.Count.{tabulate, written}
+use Rattle.counting.specs.Frames.{cardOf}
+use Rattle.counting.specs.declared.Position.{Position}
+use Rattle.counting.proofs.Lists.{getD-tabulate, tabulate-cong, set-tabulate}
 use Rattle.header.specs.Limits.{maxCards, maxPool}
-use Rattle.waiting.specs.Pool.{none, isOldest, left, writes}
-use Rattle.waiting.proofs.Left.{left-no-longer, left-same-length, writes-none}
+use Rattle.greedy_pool.specs.Pool.{none, isOldest, left, writes}
+use Rattle.greedy_pool.proofs.Left.{left-no-longer, left-same-length, writes-none}
 use Rattle.saver.specs.declared.Saver.{Saver}
 use Rattle.saver.specs.Calls.{position, cycle, numbers, cycleOn}
 use Rattle.saver.specs.Formed.{Formed}

@@ -6,17 +6,17 @@ use mathlib.Core.Bool.{false}
 use mathlib.Core.List.{List, _++_, map}
 use native.Mathlib.Omega.{arith}
 use lib.ListN.{length, take, replicate}
-use Rattle.schedule.specs.Schedule.{cardOf}
-use Rattle.schedule.specs.Greedy.{Plan, inPool, empty, saveFirst, flush, saveAndKeep, greedyWriting}
+use Rattle.counting.specs.Frames.{cardOf}
+use Rattle.schedule.specs.Greedy.{Plan, inPool, emptyPlan, saveFirst, flush, saveAndKeep, greedyWriting}
 use Rattle.header.specs.Limits.{maxCards, maxPool, maxFrames, Within}
-use Rattle.waiting.specs.Log.{logOf, times, timesIn}
-use Rattle.waiting.proofs.Saves.{flush-done}
-use Rattle.waiting.proofs.Once.{once}
+use Rattle.greedy_pool.specs.Log.{logOf, times, timesIn}
+use Rattle.greedy_pool.proofs.Saves.{flush-done}
+use Rattle.greedy_pool.proofs.Once.{once}
 use Rattle.saver.specs.declared.Saver.{Saver}
 use Rattle.saver.specs.declared.Answer.{Answer}
 use Rattle.saver.specs.Calls.{numbers, newSaver, newOf}
 use Rattle.saver.specs.Formed.{Formed}
-use Rattle.saver.specs.Follows.{Shows}
+use Rattle.saver.specs.Follows.{ShowsPlan}
 use Rattle.saver.specs.Runs.{Call, save, close, after, log, accepted, savedAndClosed}
 use Rattle.saver.proofs.Opening.{new-shows, new-is}
 use Rattle.saver.proofs.Forming.{formed-opened}
@@ -107,12 +107,12 @@ module _ (cards m : ℕ) (calls : List Call) where
   none-taken : first .taken ≡ 0
   none-taken = new-shows list cards m .taken
 
-  shown : Shown list empty last (log first calls)
-  shown = calls-shown list calls first empty (formed-opened cards m) (new-shows list cards m) (rw none-taken)
+  shown : Shown list emptyPlan last (log first calls)
+  shown = calls-shown list calls first emptyPlan (formed-opened cards m) (new-shows list cards m) (rw none-taken)
 
   pub each-once : (i : ℕ) → i < last .taken → timesIn i (log first calls) + times i (take (last .waiting) (numbers (last .position))) ≡ 1
   each-once i l =
-      let v : Shows list (shown .0) last = shown .1 in
+      let v : ShowsPlan list (shown .0) last = shown .1 in
       let few : last .taken ≤ maxFrames = formed-after calls first (formed-opened cards m) .0 .few-taken in
       rw (v .positions, ← shown .2)
       (once list (shown .0) (v .told) (λ j h. accepted-low calls first (formed-opened cards m) j) (omega (arith, v .taken)) i (omega (arith, v .taken)))

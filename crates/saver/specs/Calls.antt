@@ -7,11 +7,11 @@ use mathlib.Core.Bool.{Bool, true, false, _&&_, cond}
 use mathlib.Core.List.{List, map}
 use lib.Dec.{eqb, leb, ltb}
 use lib.ListN.{length, set, replicate}
-use Rattle.schedule.specs.Count.{tabulate, written}
-use Rattle.schedule.specs.declared.Cycle.{Cycle}
-use Rattle.schedule.specs.declared.Position.{Position}
+use Rattle.counting.specs.Count.{tabulate, written}
+use Rattle.counting.specs.declared.Cycle.{Cycle}
+use Rattle.counting.specs.declared.Position.{Position}
 use Rattle.header.specs.Limits.{maxCards, maxPool, maxFrames}
-use Rattle.waiting.specs.Pool.{none, left, writes}
+use Rattle.greedy_pool.specs.Pool.{none, left, writes}
 use Rattle.saver.specs.declared.Saver.{Saver}
 use Rattle.saver.specs.declared.Answer.{Answer}
 
@@ -21,7 +21,7 @@ position i = record { 0 = i }
 abbrev pub cycle : ℕ → Cycle
 cycle c = record { 0 = c }
 
--- positions by their numbers, as crates/waiting takes them
+-- positions by their numbers, as crates/greedy_pool takes them
 abbrev pub numbers : List Position → List ℕ
 numbers l = map (λ p. p .0) l
 

@@ -3,10 +3,10 @@
 use Prim.Native.Nat.{ℕ}
 use mathlib.Core.List.{List, [], _∷_, map}
 use lib.ListN.{take}
-use Rattle.waiting.specs.Pool.{none}
+use Rattle.greedy_pool.specs.Pool.{none}
 use Rattle.saver.specs.declared.Saver.{Saver}
 use Rattle.saver.specs.Calls.{newOf}
-use Rattle.saver.specs.Runs.{Call, save, close, answerTo, log, savedAndClosed}
+use Rattle.saver.specs.Runs.{Call, save, close, callOf, log, savedAndClosed}
 
 -- A case: the pool of a new saver for two cards, calls, and what they write: the entries of cards 0 and 1 for each cycle.
 pub record Case : Type 0 where
@@ -33,4 +33,4 @@ cases =
 -- the numbers of the refusals that some calls give, one after the other; 0 for none
 abbrev pub refusals : Saver → List Call → List ℕ
 refusals s [] = []
-refusals s (a ∷ calls) = answerTo s a .refusal ∷ refusals (answerTo s a .saver) calls
+refusals s (a ∷ calls) = callOf s a .refusal ∷ refusals (callOf s a .saver) calls

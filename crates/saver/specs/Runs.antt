@@ -14,14 +14,14 @@ pub data Call : Type 0 where
   save : ℕ → Call
   close : Call
 
-abbrev pub answerTo : Saver → Call → Answer
-answerTo s (save card) = saveOf s card
-answerTo s close = closeOf s
+abbrev pub callOf : Saver → Call → Answer
+callOf s (save card) = saveOf s card
+callOf s close = closeOf s
 
 -- the record after the calls
 abbrev pub after : Saver → List Call → Saver
 after s [] = s
-after s (a ∷ calls) = after (answerTo s a .saver) calls
+after s (a ∷ calls) = after (callOf s a .saver) calls
 
 -- what the answer's cycle wrote: an entry for each card; nothing if it made no cycle
 abbrev pub logged : Answer → List (List ℕ)
@@ -30,7 +30,7 @@ logged r = cond (eqb (r .cycle .0) 0) [] (numbers (r .written) ∷ [])
 -- what the cycles of all calls wrote, in the order of the calls
 abbrev pub log : Saver → List Call → List (List ℕ)
 log s [] = []
-log s (a ∷ calls) = logged (answerTo s a) ++ log (answerTo s a .saver) calls
+log s (a ∷ calls) = logged (callOf s a) ++ log (callOf s a .saver) calls
 
 -- the cards of the frames that were saved: a refused save saves none
 abbrev pub accepted : Saver → List Call → List ℕ

@@ -7,8 +7,8 @@ ghost use Rattle.saver.specs.Follows.{SaveFollows, CloseFollows};
 mod steps;
 
 use header::limits;
-use schedule::Cycle;
-use schedule::Position;
+use counting::Cycle;
+use counting::Position;
 
 // The frames in the pool stand at the first places of `card` and `position`, oldest first; the places after them are 0.
 #[repr(C)]

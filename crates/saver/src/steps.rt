@@ -4,8 +4,8 @@ ghost use Rattle.saver.specs.Calls.{newSaver, noSaver, refusal, quiet, e
 ghost use Rattle.saver.specs.Formed.{Formed, Room};
 use crate::Answer;
 use crate::Saver;
-use schedule::Cycle;
-use schedule::Position;
+use counting::Cycle;
+use counting::Position;
 
 // The entry of a card that writes nothing.
 const NONE: u16 = 65535;

@@ -6,7 +6,7 @@ use Prim.Native.Nat.{ℕ, zero, suc, _+_, _≤_, min}
 use mathlib.Core.Path.{_≡_, refl}
 use native.Mathlib.Omega.{arith}
 use lib.Dec.{eqb}
-use Rattle.schedule.specs.Count.{sum, howMany}
+use Rattle.counting.specs.Count.{sum, howMany}
 
 -- a list of L frames on D cards, given by each frame's card
 module _ (m D L : ℕ) (card : ℕ → ℕ) where

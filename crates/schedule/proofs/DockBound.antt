@@ -12,12 +12,12 @@ use native.Mathlib.Decide.{decLe, decLt, ℕ-discrete}
 use lib.Dec.{eqb, leb, ltb}
 use lib.ListN.{length}
 use borrow.Author.Tests.{eq-eqb, ne-eqb, eqb-true, leb-true, le-leb, lt-leb, ltb-false, lt-ltb, not-true}
-use Rattle.schedule.specs.Count.{bit, sum, howMany}
-use Rattle.schedule.specs.Schedule.{cardOf}
+use Rattle.counting.specs.Count.{bit, sum, howMany}
+use Rattle.counting.specs.Frames.{cardOf}
 use Rattle.schedule.specs.Dock.{Step, readFrame, dropFrame, endCycle, Dock, emptyDock, isIn, deliver, breakOff, holding, perform, against, step, run}
-use Rattle.schedule.proofs.Bits.{by-test, and-left, and-right, or-neither, bit-le-one, bit-and-le, bit-and-mono, bit-and-off}
-use Rattle.schedule.proofs.Sums.{over-cards, sum-mono, sum-add, sum-zero, sum-one, sum-cut, sum-reverse, equal-at-most-one, below-at-most}
-use Rattle.schedule.proofs.Lists.{reverse-getD}
+use Rattle.counting.proofs.Bits.{by-test, and-left, and-right, or-neither, bit-le-one, bit-and-le, bit-and-mono, bit-and-off}
+use Rattle.counting.proofs.Sums.{over-cards, sum-mono, sum-add, sum-zero, sum-one, sum-cut, sum-reverse, equal-at-most-one, below-at-most}
+use Rattle.counting.proofs.Lists.{reverse-getD}
 use Rattle.schedule.proofs.Deliver.{deliver-held}
 use Rattle.schedule.proofs.Bound.{onCard, bound, under-bound}
 

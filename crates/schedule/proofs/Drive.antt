@@ -13,7 +13,7 @@ use Rattle.schedule.specs.Schedule.{cycleOf, cyclesIn, CorrectRead}
 use Rattle.schedule.specs.Dock.{Step, readFrame, endCycle, Dock, emptyDock, step, run}
 use Rattle.schedule.specs.Drive.{complete, outcome, readsOf, stepsTo}
 use Rattle.schedule.specs.Demand.{Drives}
-use Rattle.schedule.proofs.Lists.{le-largest, largest-met}
+use Rattle.counting.proofs.Lists.{le-largest, largest-met}
 use Rattle.schedule.proofs.Outcome.{run-append, Throughout, throughout-none, throughout-one, throughout-append, completes}
 use Rattle.schedule.proofs.Mid as mid
 

@@ -8,12 +8,12 @@ use native.Mathlib.Omega.{arith}
 use lib.Dec.{leb, ltb}
 use lib.ListN.{length, getD, length-reverse, length-map}
 use borrow.Author.Tests.{leb-true, le-leb, lt-ltb, le-ltb}
-use Rattle.schedule.specs.Count.{bit}
+use Rattle.counting.specs.Count.{bit}
 use Rattle.schedule.specs.Schedule.{cycleOf, cyclesIn, oBacklog, iBacklog, Correct, CorrectSave, CorrectRead}
 use Rattle.schedule.specs.Greedy.{turnRound}
-use Rattle.schedule.proofs.Bits.{and-right, bit-mono}
-use Rattle.schedule.proofs.Sums.{sum-reverse, sum-cut, sum-mono, sum-longer}
-use Rattle.schedule.proofs.Lists.{le-largest, largest-le, reverse-getD, map-getD}
+use Rattle.counting.proofs.Bits.{and-right, bit-mono}
+use Rattle.counting.proofs.Sums.{sum-reverse, sum-cut, sum-mono, sum-longer}
+use Rattle.counting.proofs.Lists.{le-largest, largest-le, reverse-getD, map-getD}
 
 pub length-turnRound : (T : ℕ) (cycles : List ℕ) → length (turnRound T cycles) ≡ length cycles
 length-turnRound T cycles = length-reverse (map (λ c. T - c + 1) cycles) ∙ length-map cycles (λ c. T - c + 1)

@@ -10,11 +10,12 @@ use native.Mathlib.Decide.{decLt, ℕ-discrete}
 use lib.Dec.{eqb}
 use lib.ListN.{length}
 use borrow.Author.Tests.{eq-eqb, ne-eqb, eqb-true, lt-ltb, le-ltb, lt-leb, le-leb}
-use Rattle.schedule.specs.Count.{bit, howMany}
-use Rattle.schedule.specs.Schedule.{cardOf, cycleOf, Correct}
+use Rattle.counting.specs.Count.{bit, howMany}
+use Rattle.counting.specs.Frames.{cardOf}
+use Rattle.schedule.specs.Schedule.{cycleOf, Correct}
 use Rattle.schedule.specs.Verdict.{Fault, Verdict, valid, faulty, noCycle, sharedCard, overfull, shares, judge, judgeFrom}
-use Rattle.schedule.proofs.Bits.{by-cases, and-left, and-right, bit-mono}
-use Rattle.schedule.proofs.Sums.{sum-mono, sum-zero, sum-term-le}
+use Rattle.counting.proofs.Bits.{by-cases, and-left, and-right, bit-mono}
+use Rattle.counting.proofs.Sums.{sum-mono, sum-zero, sum-term-le}
 
 module _ (backlog : List ℕ → ℕ → ℕ) (m : ℕ) (cards cycles : List ℕ) where
   -- frame i has none of the faults

@@ -5,13 +5,14 @@ use mathlib.Core.Path.{_≡_, refl}
 use mathlib.Core.List.{List, reverse, reverse-reverse}
 use native.Mathlib.Omega.{arith}
 use lib.ListN.{length, take, length-reverse}
-use Rattle.schedule.specs.Count.{largest}
-use Rattle.schedule.specs.Schedule.{cardOf, cyclesIn, CorrectSave, CorrectRead, oBacklog, iBacklog}
+use Rattle.counting.specs.Count.{largest}
+use Rattle.counting.specs.Frames.{cardOf}
+use Rattle.schedule.specs.Schedule.{cyclesIn, CorrectSave, CorrectRead, oBacklog, iBacklog}
 use Rattle.schedule.specs.Greedy.{Plan, greedyWriting, turnRound, lazyPrefetching}
 use Rattle.schedule.specs.Dock.{Step, emptyDock, run}
 use Rattle.schedule.specs.Drive.{complete, outcome}
 use Rattle.schedule.specs.Demand.{Drives}
-use Rattle.schedule.proofs.Lists.{le-largest, largest-le}
+use Rattle.counting.proofs.Lists.{le-largest, largest-le}
 use Rattle.schedule.proofs.SaveBound.{save-bound}
 use Rattle.schedule.proofs.DockBound.{dock-bound}
 use Rattle.schedule.proofs.Duality.{save-to-read, read-to-save, turned-no-longer}

@@ -10,10 +10,10 @@ use native.Mathlib.Decide.{decLe, decLt, ℕ-discrete}
 use lib.Dec.{eqb, leb, eqb·suc-zero}
 use lib.ListN.{length}
 use borrow.Author.Tests.{eqb-true, eqb-false, leb-true, le-leb, lt-leb}
-use Rattle.schedule.specs.Count.{bit, sum, howMany}
-use Rattle.schedule.specs.Schedule.{cardOf}
-use Rattle.schedule.proofs.Bits.{by-cases, or-cases, and-left, bit-mono, bit-le-one, bit-and-off}
-use Rattle.schedule.proofs.Sums.{sum-cong, sum-mono, passes-after}
+use Rattle.counting.specs.Count.{bit, sum, howMany}
+use Rattle.counting.specs.Frames.{cardOf}
+use Rattle.counting.proofs.Bits.{by-cases, or-cases, and-left, bit-mono, bit-le-one, bit-and-off}
+use Rattle.counting.proofs.Sums.{sum-cong, sum-mono, passes-after}
 use Rattle.schedule.proofs.Bound.{onCard, admitted, bound, bound-suc}
 use Rattle.schedule.proofs.Pool.{wait, waitOn, first, written, Cycled, written-waiting, written-next, made-next, card-rule-next, pool-written, pool-next}
 

@@ -15,6 +15,3 @@ pub mod Pool
 pub mod Bound
 pub mod Outcome
 pub mod Deliver
-pub mod Lists
-pub mod Sums
-pub mod Bits

@@ -6,7 +6,7 @@ use Prim.Native.Nat.{ℕ, _≤_}
 use mathlib.Core.Path.{_≡_, ap, _∙_}
 use mathlib.Core.List.{List, [], _∷_, reverse, map}
 use lib.ListN.{length}
-use Rattle.schedule.specs.Count.{tabulate, largest}
+use Rattle.counting.specs.Count.{tabulate, largest}
 use Rattle.schedule.specs.Schedule.{cyclesIn, oBacklog, iBacklog, CorrectSave, CorrectRead}
 use Rattle.schedule.specs.Greedy.{greedyWriting, turnRound, lazyPrefetching}
 use Rattle.schedule.specs.Dock.{Step, emptyDock, run}

@@ -11,11 +11,12 @@ use native.Mathlib.Decide.{decLe, decLt, ℕ-discrete}
 use lib.Dec.{eqb, leb, ltb}
 use lib.ListN.{length}
 use borrow.Author.Tests.{eq-eqb, ne-eqb, leb-true, le-leb, lt-leb, lt-ltb, le-ltb}
-use Rattle.schedule.specs.Count.{bit}
-use Rattle.schedule.specs.Schedule.{cardOf, cycleOf, CorrectRead}
+use Rattle.counting.specs.Count.{bit}
+use Rattle.counting.specs.Frames.{cardOf}
+use Rattle.schedule.specs.Schedule.{cycleOf, CorrectRead}
 use Rattle.schedule.specs.Dock.{readFrame, endCycle, Dock, emptyDock, isIn, deliver, holding, perform, step}
-use Rattle.schedule.proofs.Bits.{by-cases, and-left, and-right, or-right, bit-le-one}
-use Rattle.schedule.proofs.Sums.{sum-mono, sum-add, sum-zero, equal-at-most-one}
+use Rattle.counting.proofs.Bits.{by-cases, and-left, and-right, or-right, bit-le-one}
+use Rattle.counting.proofs.Sums.{sum-mono, sum-add, sum-zero, equal-at-most-one}
 use Rattle.schedule.proofs.Deliver.{deliver-from, deliver-within, deliver-stops, deliver-held}
 
 module _ (m : ℕ) (cards cycles : List ℕ) where

@@ -10,11 +10,12 @@ use native.Mathlib.Decide.{ℕ-discrete}
 use lib.Dec.{eqb}
 use lib.ListN.{length}
 use borrow.Author.Tests.{eqb-true, ltb-true}
-use Rattle.schedule.specs.Count.{howMany}
-use Rattle.schedule.specs.Schedule.{cardOf, cycleOf}
+use Rattle.counting.specs.Count.{howMany}
+use Rattle.counting.specs.Frames.{cardOf}
+use Rattle.schedule.specs.Schedule.{cycleOf}
 use Rattle.schedule.specs.Verdict.{Fault, order, Verdict, valid, faulty, noCycle, sharedCard, overfull, shares, judgeFrom, Has, Named}
-use Rattle.schedule.proofs.Bits.{and-left, and-right}
-use Rattle.schedule.proofs.Sums.{some-passes}
+use Rattle.counting.proofs.Bits.{and-left, and-right}
+use Rattle.counting.proofs.Sums.{some-passes}
 use Rattle.schedule.proofs.Exact as exact
 
 module _ (backlog : List ℕ → ℕ → ℕ) (m : ℕ) (cards cycles : List ℕ) where

@@ -9,10 +9,10 @@ use native.Mathlib.Decide.{ℕ-discrete}
 use lib.Dec.{eqb, eqb·suc-zero}
 use lib.ListN.{length}
 use borrow.Author.Tests.{eq-eqb, ne-eqb, eqb-true}
-use Rattle.schedule.specs.Count.{bit, sum, howMany}
-use Rattle.schedule.specs.Schedule.{cardOf}
-use Rattle.schedule.proofs.Bits.{and-left, and-right, bit-split}
-use Rattle.schedule.proofs.Sums.{over-cards, sum-cong, sum-add, sum-one, sum-term-le, one-is-first, sum-some}
+use Rattle.counting.specs.Count.{bit, sum, howMany}
+use Rattle.counting.specs.Frames.{cardOf}
+use Rattle.counting.proofs.Bits.{and-left, and-right, bit-split}
+use Rattle.counting.proofs.Sums.{over-cards, sum-cong, sum-add, sum-one, sum-term-le, one-is-first, sum-some}
 
 -- a frame is written after a cycle: it was before, or it was its card's first
 written-after : (w f : Bool) (x t : ℕ) → eqb x 0 ≡ w → bit (not (eqb (cond (w && f) (suc t) x) 0)) ≡ bit (not w) + bit (w && f)

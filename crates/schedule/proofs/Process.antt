@@ -10,12 +10,13 @@ use lib.Dec.{eqb, leb, ltb}
 use lib.ListN.{length, length-append, List·getD-append}
 use lib.Seq.{getD-at}
 use borrow.Author.Tests.{ne-eqb, eqb-true, eqb-false, ltb-true, ltb-false}
-use Rattle.schedule.specs.Count.{bit, sum, howMany}
-use Rattle.schedule.specs.Schedule.{cardOf, cycleOf, CorrectSave}
-use Rattle.schedule.specs.Greedy.{Plan, inPool, empty, enter, isFirst, oneCycle, save, saveFirst, flush, saveAndKeep, greedyWriting}
-use Rattle.schedule.proofs.Bits.{by-cases, by-test, bit-or-le}
-use Rattle.schedule.proofs.Sums.{sum-cong, sum-mono, sum-term-le}
-use Rattle.schedule.proofs.Lists.{length-tabulate, getD-tabulate}
+use Rattle.counting.specs.Count.{bit, sum, howMany}
+use Rattle.counting.specs.Frames.{cardOf}
+use Rattle.schedule.specs.Schedule.{cycleOf, CorrectSave}
+use Rattle.schedule.specs.Greedy.{Plan, inPool, emptyPlan, enter, isFirst, oneCycle, saveFrame, saveFirst, flush, saveAndKeep, greedyWriting}
+use Rattle.counting.proofs.Bits.{by-cases, by-test, bit-or-le}
+use Rattle.counting.proofs.Sums.{sum-cong, sum-mono, sum-term-le}
+use Rattle.counting.proofs.Lists.{length-tabulate, getD-tabulate}
 use Rattle.schedule.proofs.Bound.{admitted, bound, bound-zero}
 use Rattle.schedule.proofs.Pool.{wait, Cycled, pool-written, pool-next}
 use Rattle.schedule.proofs.Invariant.{Inv, inv-cycle, inv-enter, written-total}
@@ -42,7 +43,7 @@ module _ (m : ℕ) (cards : List ℕ) (D : ℕ) (low : (i : ℕ) → i < length 
   pool-total n p g =
       omega (arith, pool-is n p g, pool-written cards D low n (at p) (g .inv .inside), written-total m cards D low n (at p) (p .T) (g .inv))
 
-  good-empty : Good 0 empty
+  good-empty : Good 0 emptyPlan
   good-empty =
       record {
         long = refl;
@@ -82,7 +83,7 @@ module _ (m : ℕ) (cards : List ℕ) (D : ℕ) (low : (i : ℕ) → i < length 
       }
 
   module _ (pos : 1 ≤ m) where
-    good-save : (n : ℕ) (p : Plan) → Good n p → n < L → Good (suc n) (save cards m p)
+    good-save : (n : ℕ) (p : Plan) → Good n p → n < L → Good (suc n) (saveFrame cards m p)
     good-save n p g l =
         by-test (λ r. Good (suc n) (enter r)) (ltb (inPool (p .cycles)) m) p (oneCycle cards p)
         (λ e. good-enter n p g l (ltb-true (inPool (p .cycles)) m e))

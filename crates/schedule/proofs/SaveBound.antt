@@ -11,11 +11,12 @@ use native.Mathlib.Decide.{decLe}
 use lib.Dec.{eqb, leb}
 use lib.ListN.{length}
 use borrow.Author.Tests.{eqb-true, le-leb, lt-leb}
-use Rattle.schedule.specs.Count.{bit, sum, howMany}
-use Rattle.schedule.specs.Schedule.{cardOf, cycleOf, cyclesIn, CorrectSave}
-use Rattle.schedule.proofs.Bits.{bit-and-le, bit-and-off, bit-up-to, and-left, and-right}
-use Rattle.schedule.proofs.Sums.{over-cards, sum-mono, sum-add, sum-zero, sum-one, sum-cut, sum-longer, at-most-one}
-use Rattle.schedule.proofs.Lists.{le-largest}
+use Rattle.counting.specs.Count.{bit, sum, howMany}
+use Rattle.counting.specs.Frames.{cardOf}
+use Rattle.schedule.specs.Schedule.{cycleOf, cyclesIn, CorrectSave}
+use Rattle.counting.proofs.Bits.{bit-and-le, bit-and-off, bit-up-to, and-left, and-right}
+use Rattle.counting.proofs.Sums.{over-cards, sum-mono, sum-add, sum-zero, sum-one, sum-cut, sum-longer, at-most-one}
+use Rattle.counting.proofs.Lists.{le-largest}
 use Rattle.schedule.proofs.Bound.{bound, under-bound}
 
 -- a cycle x is y or later, or it is up to t, where y is up to t + 1

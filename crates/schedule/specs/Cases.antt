@@ -31,17 +31,17 @@ pub data Answer : Type 0 where
 pub data Case : Type 0 where
   _gives_ : Question → Answer → Case
 
-abbrev planOf : Plan → Answer
-planOf p = plan (p .cycles) (p .T)
+abbrev planShown : Plan → Answer
+planShown p = plan (p .cycles) (p .T)
 
-abbrev dockOf : List ℕ → Outcome → Dock → Answer
-dockOf cards o d = dock o (d .delivered) (holding cards d) (d .broken)
+abbrev dockShown : List ℕ → Outcome → Dock → Answer
+dockShown cards o d = dock o (d .delivered) (holding cards d) (d .broken)
 
 abbrev pub answerTo : Question → Answer
-answerTo (readPlan m cards) = planOf (lazyPrefetching m cards)
-answerTo (savePlan m cards) = planOf (greedyWriting m cards)
-answerTo (keepPlan m cards) = planOf (saveAndKeep m cards)
-answerTo (drive m cards steps) = dockOf cards (outcome m cards steps emptyDock) (run m cards steps emptyDock)
+answerTo (readPlan m cards) = planShown (lazyPrefetching m cards)
+answerTo (savePlan m cards) = planShown (greedyWriting m cards)
+answerTo (keepPlan m cards) = planShown (saveAndKeep m cards)
+answerTo (drive m cards steps) = dockShown cards (outcome m cards steps emptyDock) (run m cards steps emptyDock)
 answerTo (peakOf m cards steps) = most (peak m cards steps emptyDock)
 answerTo (checkRead m cards cycles) = verdict (verdictOnRead m cards cycles)
 answerTo (checkSave m cards cycles) = verdict (verdictOnSave m cards cycles)

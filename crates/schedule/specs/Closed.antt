@@ -6,7 +6,7 @@ use mathlib.Core.Bool.{_&&_}
 use mathlib.Core.List.{List}
 use lib.Dec.{ltb}
 use lib.ListN.{length}
-use Rattle.schedule.specs.Count.{howMany}
+use Rattle.counting.specs.Count.{howMany}
 use Rattle.schedule.specs.Schedule.{cycleOf}
 
 -- |{j > i : iStep(j) < iStep(i)}|: the frames that wait in buffers, read already, while frame i is not

@@ -8,8 +8,8 @@ use mathlib.Core.Bool.{Bool, true, false, not, _&&_, _||_, cond}
 use mathlib.Core.List.{List, [], _∷_}
 use lib.Dec.{eqb, leb, ltb}
 use lib.ListN.{length}
-use Rattle.schedule.specs.Count.{howMany}
-use Rattle.schedule.specs.Schedule.{cardOf}
+use Rattle.counting.specs.Count.{howMany}
+use Rattle.counting.specs.Frames.{cardOf}
 
 pub data Step : Type 0 where
   readFrame : ℕ → Step

@@ -9,8 +9,9 @@ use mathlib.Core.Bool.{Bool, _&&_, cond}
 use mathlib.Core.List.{List, [], _∷_, _++_, map, reverse}
 use lib.Dec.{eqb, ltb}
 use lib.ListN.{length}
-use Rattle.schedule.specs.Count.{howMany, tabulate}
-use Rattle.schedule.specs.Schedule.{cardOf, cycleOf}
+use Rattle.counting.specs.Count.{howMany, tabulate}
+use Rattle.counting.specs.Frames.{cardOf}
+use Rattle.schedule.specs.Schedule.{cycleOf}
 
 -- A cycle for each frame, 0 for a frame that no cycle has written, and T, the number of cycles made.
 pub record Plan : Type 0 where
@@ -25,8 +26,8 @@ waits cycles i = eqb (cycleOf cycles i) 0
 abbrev pub inPool : List ℕ → ℕ
 inPool cycles = howMany (length cycles) (waits cycles)
 
-abbrev pub empty : Plan
-empty = record { cycles = []; T = 0 }
+abbrev pub emptyPlan : Plan
+emptyPlan = record { cycles = []; T = 0 }
 
 -- "the frame enters"
 abbrev pub enter : Plan → Plan
@@ -46,13 +47,13 @@ module _ (cards : List ℕ) where
       }
 
   -- "If the pool has fewer than m, the frame enters. If not, one cycle is made ..; then the frame enters."
-  abbrev pub save : ℕ → Plan → Plan
-  save m p = enter (cond (ltb (inPool (p .cycles)) m) p (oneCycle p))
+  abbrev pub saveFrame : ℕ → Plan → Plan
+  saveFrame m p = enter (cond (ltb (inPool (p .cycles)) m) p (oneCycle p))
 
   -- "take the frames in order": the first n of them are saved
   abbrev pub saveFirst : ℕ → ℕ → Plan
-  saveFirst m zero = empty
-  saveFirst m (suc n) = save m (saveFirst m n)
+  saveFirst m zero = emptyPlan
+  saveFirst m (suc n) = saveFrame m (saveFirst m n)
 
   -- "cycles follow until the pool is empty"; each empties it by a frame or more, so k cycles are enough for a pool of k
   abbrev pub flush : ℕ → Plan → Plan

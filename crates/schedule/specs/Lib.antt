@@ -1,4 +1,3 @@
-pub mod Count
 pub mod Schedule
 pub mod Greedy
 pub mod Dock

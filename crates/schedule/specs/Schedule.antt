@@ -10,10 +10,8 @@ use mathlib.Core.Bool.{_&&_}
 use mathlib.Core.List.{List}
 use lib.Dec.{leb, ltb}
 use lib.ListN.{length, getD}
-use Rattle.schedule.specs.Count.{howMany, largest}
-
-abbrev pub cardOf : List ℕ → ℕ → ℕ
-cardOf cards i = getD cards i 0
+use Rattle.counting.specs.Count.{howMany, largest}
+use Rattle.counting.specs.Frames.{cardOf}
 
 abbrev pub cycleOf : List ℕ → ℕ → ℕ
 cycleOf cycles i = getD cycles i 0

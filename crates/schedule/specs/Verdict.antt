@@ -9,8 +9,9 @@ use mathlib.Core.Bool.{Bool, _&&_, cond}
 use mathlib.Core.List.{List}
 use lib.Dec.{eqb, leb, ltb}
 use lib.ListN.{length}
-use Rattle.schedule.specs.Count.{howMany}
-use Rattle.schedule.specs.Schedule.{cardOf, cycleOf, cyclesIn, oBacklog, iBacklog}
+use Rattle.counting.specs.Count.{howMany}
+use Rattle.counting.specs.Frames.{cardOf}
+use Rattle.schedule.specs.Schedule.{cycleOf, cyclesIn, oBacklog, iBacklog}
 use Rattle.schedule.specs.Dock.{emptyDock}
 use Rattle.schedule.specs.Drive.{peak, stepsOf}
 

@@ -11,8 +11,8 @@ use native.Mathlib.Nat.{pow-suc, pow-le-pow-right}
 use lib.Dec.{eqb, leb, ltb}
 use lib.ListN.{length, getD}
 use borrow.Author.Tests.{lt-ltb, le-ltb, ltb-true, leb-true, eqb-true}
-use Rattle.schedule.proofs.Bits.{by-cases, by-test, and-left, and-right}
-use Rattle.schedule.proofs.Lists.{getD-tabulate}
+use Rattle.counting.proofs.Bits.{by-cases, by-test, and-left, and-right}
+use Rattle.counting.proofs.Lists.{getD-tabulate}
 use Rattle.text.specs.Text.{digit, digitValues, digits, number, isLine, isDigit, endByte}
 
 -- the table of values, read at a byte

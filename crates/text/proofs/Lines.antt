@@ -7,7 +7,7 @@ use mathlib.Core.List.{List}
 use mathlib.Core.Logic.{_⊎_, inl, inr}
 use native.Mathlib.Omega.{arith}
 use borrow.Author.Tests.{eq-eqb}
-use Rattle.schedule.proofs.Bits.{by-cases}
+use Rattle.counting.proofs.Bits.{by-cases}
 use Rattle.text.specs.Text.{isLine, Line}
 use Rattle.text.proofs.Digits.{line-long, line-digits, line-end, digit-at, all-digits, is-line}
 

@@ -7,7 +7,7 @@ use mathlib.Core.Bool.{Bool, true, _&&_, cond}
 use mathlib.Core.List.{List}
 use lib.Dec.{eqb, leb, ltb}
 use lib.ListN.{length, getD}
-use Rattle.schedule.specs.Count.{tabulate}
+use Rattle.counting.specs.Count.{tabulate}
 
 -- "ends in byte 0A hex"
 abbrev pub endByte : ℕ

@@ -5,9 +5,9 @@ use mathlib.Core.Path.{_≡_, refl, ap, _∙_}
 use mathlib.Core.List.{List}
 use native.Mathlib.Omega.{arith}
 use lib.ListN.{length, length-drop}
-use Rattle.schedule.specs.Count.{tabulate}
-use Rattle.schedule.specs.Schedule.{cardOf}
-use Rattle.schedule.proofs.Lists.{length-tabulate, getD-tabulate}
+use Rattle.counting.specs.Count.{tabulate}
+use Rattle.counting.specs.Frames.{cardOf}
+use Rattle.counting.proofs.Lists.{length-tabulate, getD-tabulate}
 use Rattle.header.specs.Heading.{headerBytes, headerOf}
 use Rattle.ticket.specs.Grounds.{Says, row1, row2, row3, row4, row5, row6, row7, row8, row9, none, HeaderPasses, LinesPass, framesOf, part, Fits}
 use Rattle.ticket.specs.Ticket.{Parsed, accepted, refused, lineBytes, cardAt, parse}

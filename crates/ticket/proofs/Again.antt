@@ -6,15 +6,15 @@ use mathlib.Core.List.{List, [], _∷_, _++_, append-assoc}
 use native.Mathlib.Omega.{arith}
 use lib.ListN.{length, length-append}
 use lib.Seq.{drop-at, ext-getD}
-use Rattle.schedule.specs.Count.{tabulate}
-use Rattle.schedule.specs.Schedule.{cardOf}
-use Rattle.schedule.proofs.Lists.{length-tabulate, getD-tabulate}
+use Rattle.counting.specs.Count.{tabulate}
+use Rattle.counting.specs.Frames.{cardOf}
+use Rattle.counting.proofs.Lists.{length-tabulate, getD-tabulate}
 use Rattle.text.specs.Hex.{hex, endOfLine}
 use Rattle.text.specs.Text.{number, Line}
 use Rattle.text.proofs.Hex.{length-hex}
 use Rattle.text.proofs.Again.{AllDigits, append-digits, hex-digits, digits-line, number-again, number-after, line-after}
 use Rattle.header.specs.Heading.{headerDigits, headerBytes, headerOf}
-use Rattle.header.specs.Limits.{Within, edition1, saveAndKeep, maxCards, maxPool, maxFrames}
+use Rattle.header.specs.Limits.{Within, edition1, modeSaveAndKeep, maxCards, maxPool, maxFrames}
 use Rattle.header.specs.declared.Header.{Header}
 use Rattle.ticket.specs.Grounds.{HeaderPasses, LinePasses, none, Fits, part}
 use Rattle.ticket.specs.Print.{lineTexts, ticketText}
@@ -164,7 +164,7 @@ module _ (h : Header) (cards : List ℕ) (f : Fits h cards) where
       record {
         line = header-line;
         edition = of-header (λ x. x .edition ≡ edition1) (f .edition);
-        mode = of-header (λ x. x .mode ≤ saveAndKeep) (f .mode);
+        mode = of-header (λ x. x .mode ≤ modeSaveAndKeep) (f .mode);
         cards = of-header (λ x. Within maxCards (x .cards)) (f .card-range);
         pool = of-header (λ x. Within maxPool (x .pool)) (f .pool);
         frames = of-header (λ x. x .frames ≤ maxFrames) (f .few);

@@ -8,15 +8,15 @@ use lib.ListN.{length, take, drop, replicate, length-append, length-drop, List·
 use lib.Seq.{take-at, length-take-le}
 use borrow.Author.Tests.{ne-eqb, lt-ltb, le-ltb, ltb-true}
 use lib.Dec.{ltb}
-use Rattle.schedule.specs.Count.{tabulate}
-use Rattle.schedule.specs.Schedule.{cardOf}
-use Rattle.schedule.proofs.Bits.{by-cases}
-use Rattle.schedule.proofs.Lists.{from-place, drop-replicate, length-tabulate}
+use Rattle.counting.specs.Count.{tabulate}
+use Rattle.counting.specs.Frames.{cardOf}
+use Rattle.counting.proofs.Bits.{by-cases}
+use Rattle.counting.proofs.Lists.{from-place, drop-replicate, length-tabulate}
 use Rattle.header.specs.Heading.{headerBytes, heading}
 use Rattle.header.specs.Numbers.{numbersOf}
 use Rattle.header.specs.Limits.{maxCards, maxFrames}
 use Rattle.ticket.specs.Grounds.{Fits}
-use Rattle.ticket.specs.Part.{place}
+use Rattle.ticket.specs.Part.{address}
 use Rattle.ticket.specs.Ticket.{Parsed, accepted, refused, cardAt, partFault, parse, zeros, ticketOf, numbersIn, countsUpTo, countsOf}
 use Rattle.ticket.specs.Ticket.{lineBytes, lineDigits, lineRefusalOf, lineStart, lineIn, lineOf, linePlace}
 use Rattle.ticket.proofs.Accepted.{as-many, fits, line-inside}
@@ -86,7 +86,7 @@ module _ (t : List ℕ) (x : Ticket) (e : x ≡ ticketOf (parse t)) where
 
 -- where a part stands that begins at byte i of a slice; at byte 0 it stands where the slice does
 module _ (start : ℕ × ℕ) where
-  pub stands : {i j : ℕ} → i ≡ j → _≡_ {A = ℕ × ℕ} (start .0, i + start .1) (place start j)
+  pub stands : {i j : ℕ} → i ≡ j → _≡_ {A = ℕ × ℕ} (start .0, i + start .1) (address start j)
   stands {i} {j} e = ap (λ (k : ℕ). (start .0, k)) (let q : i + start .1 ≡ start .1 + j = omega (arith, e) in q)
 
   pub stands-first : _≡_ {A = ℕ × ℕ} (start .0, 0 + start .1) start

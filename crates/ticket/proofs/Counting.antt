@@ -8,10 +8,10 @@ use native.Mathlib.Numerals.{add-one}
 use lib.Dec.{eqb}
 use lib.ListN.{length, getD, set, List·getD-append}
 use borrow.Author.Tests.{eq-eqb, ne-eqb}
-use Rattle.schedule.specs.Count.{bit, howMany}
-use Rattle.schedule.specs.Schedule.{cardOf}
-use Rattle.schedule.proofs.Lists.{getD-tabulate, tabulate-cong, set-tabulate}
-use Rattle.schedule.proofs.Sums.{sum-cong, howMany-le}
+use Rattle.counting.specs.Count.{bit, howMany}
+use Rattle.counting.specs.Frames.{cardOf}
+use Rattle.counting.proofs.Lists.{getD-tabulate, tabulate-cong, set-tabulate}
+use Rattle.counting.proofs.Sums.{sum-cong, howMany-le}
 use Rattle.header.specs.Limits.{maxCards}
 use Rattle.ticket.specs.Ticket.{countsUpTo}
 

@@ -11,8 +11,8 @@ use native.Mathlib.Decide.{decLt}
 use lib.ListN.{length, drop, getD}
 use lib.Dec.{ltb}
 use borrow.Author.Tests.{lt-ltb, le-ltb, ltb-true, eq-eqb, ne-eqb}
-use Rattle.schedule.specs.Count.{tabulate}
-use Rattle.schedule.proofs.Bits.{by-cases}
+use Rattle.counting.specs.Count.{tabulate}
+use Rattle.counting.proofs.Bits.{by-cases}
 use Rattle.text.specs.Text.{endByte, digit, digits, number, isLine}
 use Rattle.text.proofs.Digits.{digit-below, line-long, line-end, is-line, not-digits, no-digits}
 use Rattle.ticket.specs.Ticket.{lineBytes, lineDigits, cardAt, lineFault, linesFault, partFault}

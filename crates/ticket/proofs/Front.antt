@@ -10,8 +10,8 @@ use lib.Dec.{ltb}
 use lib.ListN.{length, take, drop, length-take}
 use lib.Seq.{getD-take, take-nil}
 use borrow.Author.Tests.{lt-ltb, le-ltb}
-use Rattle.schedule.specs.Count.{tabulate}
-use Rattle.schedule.proofs.Lists.{tabulate-cong}
+use Rattle.counting.specs.Count.{tabulate}
+use Rattle.counting.proofs.Lists.{tabulate-cong}
 use Rattle.text.specs.Text.{digits, number, isLine}
 use Rattle.header.specs.Heading.{headerDigits, headerBytes, headerOf, heading}
 use Rattle.header.specs.Limits.{maxFrames}

@@ -6,7 +6,7 @@ use mathlib.Core.Path.{_≡_, refl, sym, _∙_}
 use mathlib.Core.List.{List}
 use mathlib.Core.Logic.{_⊎_, inl, inr}
 use lib.ListN.{length, take}
-use Rattle.schedule.specs.Schedule.{cardOf}
+use Rattle.counting.specs.Frames.{cardOf}
 use Rattle.text.specs.Hex.{hex}
 use Rattle.header.specs.Heading.{headerBytes}
 use Rattle.header.specs.Limits.{Within, maxFrames}

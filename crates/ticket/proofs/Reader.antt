@@ -8,11 +8,11 @@ use native.Mathlib.Omega.{arith}
 use native.Mathlib.Decide.{decLe, decLt, ℕ-discrete}
 use lib.ListN.{length}
 use borrow.Author.Tests.{ne-eqb}
-use Rattle.schedule.specs.Count.{tabulate}
+use Rattle.counting.specs.Count.{tabulate}
 use Rattle.text.specs.Text.{Line}
 use Rattle.text.proofs.Lines.{line-true, line-false, line-or-not}
 use Rattle.header.specs.Heading.{headerDigits, headerOf, heading}
-use Rattle.header.specs.Limits.{edition1, saveAndKeep, maxCards, maxPool, maxFrames, Within}
+use Rattle.header.specs.Limits.{edition1, modeSaveAndKeep, maxCards, maxPool, maxFrames, Within}
 use Rattle.header.proofs.Judged.{range, judge-2, judge-3, judge-4, judge-5, judge-6, heading-1, heading-of}
 use Rattle.ticket.specs.Grounds.{Says, row1, row2, row3, row4, row5, row6, row7, row8, row9, none, HeaderPasses, LinePasses, LinesPass, editionOf, modeOf, cardsOf, poolOf, framesOf, part}
 use Rattle.ticket.specs.Ticket.{Parsed, accepted, refused, lineDigits, lineBytes, cardAt, partFault, parse}
@@ -95,7 +95,7 @@ module _ (t : List ℕ) where
   HeaderRow : Type 0
   HeaderRow = HeaderPasses t ⊎ ((k : ℕ) × (heading t ≡ Refused k) × Says t (refused k))
 
-  module _ (l : Line t 0 headerDigits) (e : editionOf t ≡ edition1) (m : modeOf t ≤ saveAndKeep) (c : Within maxCards (cardsOf t)) where
+  module _ (l : Line t 0 headerDigits) (e : editionOf t ≡ edition1) (m : modeOf t ≤ modeSaveAndKeep) (c : Within maxCards (cardsOf t)) where
     row-by-frames : Within maxPool (poolOf t) → HeaderRow
     unfolding HeaderRow
     row-by-frames p =
@@ -112,7 +112,7 @@ module _ (t : List ℕ) where
         ⊎-elim row-by-frames (λ p. inr (5, heading-of t (line-true _ _ _ l) ∙ judge-5 _ e m c p, row5 l e m c p)) (range maxPool (poolOf t))
 
   module _ (l : Line t 0 headerDigits) where
-    row-by-cards : editionOf t ≡ edition1 → modeOf t ≤ saveAndKeep → HeaderRow
+    row-by-cards : editionOf t ≡ edition1 → modeOf t ≤ modeSaveAndKeep → HeaderRow
     unfolding HeaderRow
     row-by-cards e m =
         ⊎-elim (row-by-pool l e m) (λ c. inr (4, heading-of t (line-true _ _ _ l) ∙ judge-4 _ e m c, row4 l e m c)) (range maxCards (cardsOf t))
@@ -120,10 +120,10 @@ module _ (t : List ℕ) where
     row-by-mode : editionOf t ≡ edition1 → HeaderRow
     unfolding HeaderRow
     row-by-mode e =
-        elim (decLe (modeOf t) saveAndKeep) [
+        elim (decLe (modeOf t) modeSaveAndKeep) [
           | yes m ↦ row-by-cards e m
           | no m ↦
-              (let m : saveAndKeep < modeOf t = omega arith in
+              (let m : modeSaveAndKeep < modeOf t = omega arith in
               inr (3, heading-of t (line-true _ _ _ l) ∙ judge-3 _ e m, row3 l e m))
         ]
 

@@ -8,8 +8,8 @@ use native.Mathlib.Omega.{arith}
 use lib.ListN.{length, take, drop, length-drop, take-append-drop}
 use lib.Seq.{take-add, take-suc, take-all, getD-drop, drop-drop}
 use borrow.Author.Tests.{lt-ltb}
-use Rattle.schedule.specs.Count.{tabulate}
-use Rattle.schedule.specs.Schedule.{cardOf}
+use Rattle.counting.specs.Count.{tabulate}
+use Rattle.counting.specs.Frames.{cardOf}
 use Rattle.text.specs.Hex.{hex, endOfLine}
 use Rattle.text.specs.Text.{digits, number, Line}
 use Rattle.text.proofs.Digits.{line-digits, field-digits}

@@ -5,11 +5,11 @@ use Prim.Native.Nat.{ℕ, _*_, _≤_, _<_}
 use mathlib.Core.Path.{_≡_}
 use mathlib.Core.List.{List}
 use lib.ListN.{length, drop}
-use Rattle.schedule.specs.Count.{tabulate}
-use Rattle.schedule.specs.Schedule.{cardOf}
+use Rattle.counting.specs.Count.{tabulate}
+use Rattle.counting.specs.Frames.{cardOf}
 use Rattle.text.specs.Text.{Line}
 use Rattle.header.specs.Heading.{headerDigits, headerBytes, headerOf}
-use Rattle.header.specs.Limits.{Within, Outside, edition1, saveAndKeep, maxCards, maxPool, maxFrames}
+use Rattle.header.specs.Limits.{Within, Outside, edition1, modeSaveAndKeep, maxCards, maxPool, maxFrames}
 use Rattle.ticket.specs.Ticket.{Parsed, accepted, refused, lineDigits, lineBytes, cardAt}
 use Rattle.header.specs.declared.Header.{Header}
 
@@ -38,7 +38,7 @@ module _ (t : List ℕ) where
   pub record HeaderPasses : Type 0 where
     pub line : Line t 0 headerDigits
     pub edition : editionOf ≡ edition1
-    pub mode : modeOf ≤ saveAndKeep
+    pub mode : modeOf ≤ modeSaveAndKeep
     pub cards : Within maxCards cardsOf
     pub pool : Within maxPool poolOf
     pub frames : framesOf ≤ maxFrames
@@ -59,16 +59,16 @@ module _ (t : List ℕ) where
     -- "edition is not 01"
     row2 : Line t 0 headerDigits → (editionOf ≡ edition1 → ⊥) → Says (refused 2)
     -- "mode is over 02"
-    row3 : Line t 0 headerDigits → editionOf ≡ edition1 → saveAndKeep < modeOf → Says (refused 3)
+    row3 : Line t 0 headerDigits → editionOf ≡ edition1 → modeSaveAndKeep < modeOf → Says (refused 3)
     -- "cards not 1 to 32"
-    row4 : Line t 0 headerDigits → editionOf ≡ edition1 → modeOf ≤ saveAndKeep → Outside maxCards cardsOf → Says (refused 4)
+    row4 : Line t 0 headerDigits → editionOf ≡ edition1 → modeOf ≤ modeSaveAndKeep → Outside maxCards cardsOf → Says (refused 4)
     -- "pool not 1 to 1,024"
     row5 :
-        Line t 0 headerDigits → editionOf ≡ edition1 → modeOf ≤ saveAndKeep → Within maxCards cardsOf → Outside maxPool poolOf
+        Line t 0 headerDigits → editionOf ≡ edition1 → modeOf ≤ modeSaveAndKeep → Within maxCards cardsOf → Outside maxPool poolOf
         → Says (refused 5)
     -- "frames over 4,096"
     row6 :
-        Line t 0 headerDigits → editionOf ≡ edition1 → modeOf ≤ saveAndKeep → Within maxCards cardsOf → Within maxPool poolOf
+        Line t 0 headerDigits → editionOf ≡ edition1 → modeOf ≤ modeSaveAndKeep → Within maxCards cardsOf → Within maxPool poolOf
         → maxFrames < framesOf → Says (refused 6)
     -- "a frame line is missing or is not 2 digits and an end byte"
     row7 :
@@ -87,7 +87,7 @@ module _ (t : List ℕ) where
 -- What holds of the values of an accepted ticket.
 pub record Fits (h : Header) (cards : List ℕ) : Type 0 where
   pub edition : h .edition ≡ edition1
-  pub mode : h .mode ≤ saveAndKeep
+  pub mode : h .mode ≤ modeSaveAndKeep
   pub card-range : Within maxCards (h .cards)
   pub pool : Within maxPool (h .pool)
   pub frames : length cards ≡ h .frames

@@ -4,7 +4,7 @@ use Prim.Native.Nat.{ℕ, _≤_, _<_}
 use mathlib.Core.Path.{_≡_}
 use mathlib.Core.List.{List, _++_}
 use lib.ListN.{drop}
-use Rattle.schedule.specs.Count.{tabulate}
+use Rattle.counting.specs.Count.{tabulate}
 use Rattle.ticket.specs.Ticket.{cardAt, lineFault, linesFault}
 
 -- Of so many lines the first r pass, and the next one, if there is one, does not; their cards are written over the front of `before`.

@@ -3,5 +3,5 @@
 use Prim.Native.Nat.{ℕ, _+_}
 
 -- Where byte i of a slice stands whose first byte stands at `start`, a block of memory and a place in it.
-abbrev pub place : ℕ × ℕ → ℕ → ℕ × ℕ
-place start i = (start .0, start .1 + i)
+abbrev pub address : ℕ × ℕ → ℕ → ℕ × ℕ
+address start i = (start .0, start .1 + i)

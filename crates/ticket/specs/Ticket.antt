@@ -7,8 +7,8 @@ use mathlib.Core.Bool.{cond}
 use mathlib.Core.List.{List, [], _++_}
 use lib.Dec.{eqb, ltb}
 use lib.ListN.{length, take, drop, replicate}
-use Rattle.schedule.specs.Count.{howMany, tabulate}
-use Rattle.schedule.specs.Schedule.{cardOf}
+use Rattle.counting.specs.Count.{howMany, tabulate}
+use Rattle.counting.specs.Frames.{cardOf}
 use Rattle.text.specs.Text.{number, isLine}
 use Rattle.header.specs.Heading.{headerBytes, heading}
 use Rattle.header.specs.Numbers.{Numbers, acceptedAs, refusedBy}

@@ -2,7 +2,7 @@
 ghost use mathlib.Core.Path.{_≡_};
 ghost use Rattle.header.specs.Heading.{heading};
 ghost use Rattle.header.specs.Numbers.{numbersOf};
-ghost use Rattle.ticket.specs.Part.{place};
+ghost use Rattle.ticket.specs.Part.{address};
 ghost use Rattle.ticket.specs.Ticket.{refused, parse, ticketOf, numbersIn, refusalOf, lineRefusalOf, lineStart, lineOf, linePlace, countsOf};
 
 mod lines;
@@ -10,7 +10,7 @@ mod tally;
 
 use header::Answer;
 use header::Header;
-use schedule::Position;
+use counting::Position;
 
 // A ticket that was read. The card of frame i stands at place i; places past the last frame are 0, and beside a refusal all are.
 pub struct Ticket {
@@ -90,7 +90,7 @@ pub fn line_start(p: Position) -> usize
 // The line of the frame at a position: the two digits of its card, a part of the caller's ticket. Empty with a refusal.
 pub fn line(t: &[u8], p: Position) -> &[u8]
     ensures line { λ r. ⌜ now r ≡ lineOf (now (t .entry)) (p .0) ⌝ }
-    ensures stands { λ r. ⌜ r .ptr ≡ place (t .entry .ptr) (linePlace (now (t .entry)) (p .0)) ⌝ }
+    ensures stands { λ r. ⌜ r .ptr ≡ address (t .entry .ptr) (linePlace (now (t .entry)) (p .0)) ⌝ }
 {
     let number = line_refusal(t, p);
     if number != 0 {

@@ -4,7 +4,7 @@ ghost use mathlib.Core.Path.{_≡_};
 ghost use mathlib.Core.List.{_++_};
 ghost use Prim.Native.Nat.{_+_, _*_, _≤_, min};
 ghost use lib.ListN.{length, drop};
-ghost use Rattle.schedule.specs.Count.{tabulate};
+ghost use Rattle.counting.specs.Count.{tabulate};
 ghost use Rattle.text.specs.Text.{digit, digitValues, isLine};
 ghost use Rattle.header.specs.Limits.{maxFrames};
 ghost use Rattle.ticket.specs.Ticket.{lineBytes, lineDigits, cardAt, partFault};

@@ -2,15 +2,9 @@
 ghost use mathlib.Core.Path.{_≡_};
 ghost use Prim.Native.Nat.{ℕ, _≤_, _<_};
 ghost use lib.ListN.{length};
-ghost use Rattle.schedule.specs.Schedule.{cardOf};
+ghost use Rattle.counting.specs.Frames.{cardOf};
 ghost use Rattle.header.specs.Limits.{maxCards, maxFrames};
 ghost use Rattle.ticket.specs.Ticket.{countsUpTo};
-
-fn place(b: u8) -> usize
-    ensures { λ r. ⌜ r ≡ b ⌝ }
-{
-    b as usize
-}
 
 // Counts the first n entries of a list of cards.
 pub(crate) fn tally(card: &[u8], n: u16) -> [u16; 32]
@@ -21,7 +15,7 @@ pub(crate) fn tally(card: &[u8], n: u16) -> [u16; 32]
     let mut count = [0u16; 32];
     let mut i: usize = 0;
     while i < end {
-        let c = place(card[i]);
+        let c = counting::card_index(card[i]);
         count[c] = count[c] + 1;
         i += 1;
     }

@@ -7,7 +7,7 @@ use mathlib.Core.List.{List, []}
 use lib.Dec.{ltb, leb}
 use lib.ListN.{length, take, drop}
 use borrow.Author.Tests.{ne-eqb, lt-ltb, le-ltb, le-leb, ltb-true, leb-true}
-use Rattle.schedule.proofs.Bits.{and-left, and-right}
+use Rattle.counting.proofs.Bits.{and-left, and-right}
 use Rattle.header.specs.Limits.{maxFrames}
 use Rattle.ticket.specs.Ticket.{parse, refusalOf, lineBytes, lineDigits, lineStart}
 use Rattle.ticket.proofs.Answers.{cut-line}

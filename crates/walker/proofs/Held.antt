@@ -14,8 +14,8 @@ use denote.Ref.{RefT}
 use denote.Signature.{namedLft}
 use denote.Slice.{sliceVal}
 use denote.Struct.Laws as LL
-use Rattle.schedule.proofs.Position as P
-use Rattle.schedule.proofs.Position.Laws as P′
+use Rattle.counting.proofs.Position as P
+use Rattle.counting.proofs.Position.Laws as P′
 use Rattle.walker.proofs.Walker as T
 use Rattle.walker.proofs.Stepped as U
 

@@ -9,7 +9,7 @@ use native.Mathlib.Omega.{arith}
 use lib.ListN.{length, replicate, replicate-append-replicate}
 use borrow.Author.Tests.{lt-ltb, le-ltb}
 use Rattle.header.specs.declared.Header.{Header}
-use Rattle.schedule.specs.declared.Position.{Position}
+use Rattle.counting.specs.declared.Position.{Position}
 use Rattle.ticket.specs.Ticket.{accepted, refused, parse, lineDigits, lineOf, linePlace}
 use Rattle.ticket.proofs.Answers.{no-line, line-length}
 use Rattle.walker.specs.Walk.{end, gives, givesFrom, movedTo, after, walk, WalksOn, readerLines}

@@ -8,7 +8,7 @@ use native.Mathlib.Omega.{arith}
 use lib.Dec.{eqb, ltb}
 use lib.ListN.{length}
 use borrow.Author.Tests.{ne-eqb, lt-ltb, ltb-true}
-use Rattle.schedule.proofs.Bits.{by-cases}
+use Rattle.counting.proofs.Bits.{by-cases}
 use Rattle.header.specs.declared.Header.{Header}
 use Rattle.ticket.specs.Ticket.{accepted, refused, parse, lineStart, lineIn, lineOf, linePlace}
 use Rattle.ticket.proofs.Main.{accepted-length, accepted-few}

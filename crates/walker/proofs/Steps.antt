@@ -6,7 +6,7 @@ use mathlib.Core.Path.{_≡_, refl, sym, ap, _∙_}
 use mathlib.Core.List.{List}
 use mathlib.Core.Logic.{_⊎_, inl, inr}
 use native.Mathlib.Omega.{arith}
-use Rattle.schedule.proofs.Bits.{by-cases}
+use Rattle.counting.proofs.Bits.{by-cases}
 use Rattle.walker.specs.Walk.{hasLine, end, lineAt, placeAt, nextAt, gives, givesFrom, after}
 use Rattle.walker.proofs.Bytes.{has-room, room-has, no-line, no-place, moves-on, stays}
 use Rattle.walker.specs.declared.Walker.{Walker}

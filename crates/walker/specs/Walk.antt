@@ -12,7 +12,7 @@ use lib.Dec.{eqb, ltb, leb}
 use lib.ListN.{length}
 use Rattle.header.specs.Limits.{maxFrames}
 use Rattle.ticket.specs.Ticket.{parse, refusalOf, lineBytes, lineStart, lineIn, lineOf}
-use Rattle.schedule.specs.declared.Position.{Position}
+use Rattle.counting.specs.declared.Position.{Position}
 use Rattle.walker.specs.declared.Walker.{Walker}
 
 -- "Starting it meets the ticket's own refusals": a walker goes through the bytes of an accepted ticket, and through none of a refused one.

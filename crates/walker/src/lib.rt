@@ -1,11 +1,11 @@
 // The ticket walker: a ticket's lines one after another, each a part of the caller's ticket.
 // A walker that has no line left, or was refused, gives the empty part, which says "end". The ticket is read once, when a walker starts.
 ghost use mathlib.Core.Path.{_≡_};
-ghost use Rattle.ticket.specs.Part.{place};
+ghost use Rattle.ticket.specs.Part.{address};
 ghost use Rattle.ticket.specs.Ticket.{lineOf, linePlace};
 ghost use Rattle.walker.specs.Walk.{opened, hasLine, lineAt, placeAt, nextAt, WalksOn, movedTo, gives, givesFrom, stepped};
 use header::limits;
-use schedule::Position;
+use counting::Position;
 
 // What a walker carries: the bytes that it goes through, and the position of the line that it gives next.
 pub struct Walker<'a> {
@@ -43,7 +43,7 @@ fn has_line(bytes: &[u8], p: Position) -> bool
 // That line, empty where there is none.
 pub fn line_at(bytes: &[u8], p: Position) -> &[u8]
     ensures { λ r. ⌜ (now r ≡ lineAt (now (bytes .entry)) (p .0))
-        × (r .ptr ≡ place (bytes .entry .ptr) (placeAt (now (bytes .entry)) (p .0))) ⌝ }
+        × (r .ptr ≡ address (bytes .entry .ptr) (placeAt (now (bytes .entry)) (p .0))) ⌝ }
 {
     if has_line(bytes, p) {
         let at = ticket::line_start(p);
@@ -86,7 +86,7 @@ impl<'a> Walker<'a> {
     // The next line, empty at the end, and the walker after it.
     pub fn step(self) -> Stepped<'a>
         ensures { λ r. ⌜ (now (r .line) ≡ gives (self .entry))
-            × (r .line .ptr ≡ place (self .entry .ticket .ptr) (givesFrom (self .entry)))
+            × (r .line .ptr ≡ address (self .entry .ticket .ptr) (givesFrom (self .entry)))
             × (r .walker ≡ stepped (self .entry)) ⌝ }
     {
         Stepped {
@@ -102,7 +102,7 @@ impl<'a> Walker<'a> {
 // The line that a walker gives at a position of a ticket: the reader's line there. A caller of this function holds no walker.
 pub fn nth(ticket: &[u8], p: Position) -> &[u8]
     ensures { λ r. ⌜ (now r ≡ lineOf (now (ticket .entry)) (p .0))
-        × (r .ptr ≡ place (ticket .entry .ptr) (linePlace (now (ticket .entry)) (p .0))) ⌝ }
+        × (r .ptr ≡ address (ticket .entry .ptr) (linePlace (now (ticket .entry)) (p .0))) ⌝ }
 {
     Walker::start(ticket).at(p).step().line
 }

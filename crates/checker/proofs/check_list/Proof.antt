@@ -18,11 +18,11 @@ returns-2 c =
     let not-keep = c .before .before .if1 .left in
     length-refused _ _ _ fits not-keep (λ e. omega (arith, c .if2 .taken))
 
-slice-aggregate-judge : tie.Need-slice-aggregate-judge
-slice-aggregate-judge c = search needs
+slice-aggregate-verdict : tie.Need-slice-aggregate-verdict
+slice-aggregate-verdict c = search needs
 
-judge-requires : tie.Need-judge-requires
-judge-requires c κs =
+verdict-requires : tie.Need-verdict-requires
+verdict-requires c κs =
     let fits = c .before .before .before .before .before .before .before .before .pre in
     let not-keep = c .before .before .before .before .if1 .left in
     checking _ _ _ fits not-keep (omega (arith, c .before .before .if2 .left))
@@ -31,8 +31,8 @@ returns-3 : tie.Need-returns-3
 returns-3 c =
     let fits = c .before .before .before .before .before .before .before .before .before .pre in
     let not-keep = c .before .before .before .before .before .if1 .left in
-    checked _ _ _ fits not-keep (omega (arith, c .before .before .before .if2 .left)) _ (c .judge .ensures)
+    checked _ _ _ fits not-keep (omega (arith, c .before .before .before .if2 .left)) _ (c .verdict .ensures)
 
 pub check-list-spec : {M : Type 1} → statement M
 check-list-spec =
-    tie.close (tie.spec returns cast-n returns-2 slice-aggregate-judge judge-requires returns-3)
+    tie.close (tie.spec returns cast-n returns-2 slice-aggregate-verdict verdict-requires returns-3)

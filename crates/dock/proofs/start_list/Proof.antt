@@ -14,11 +14,11 @@ refused-requires c κs = search needs
 returns : tie.Need-returns
 returns c = too-short _ _ _ (c .before .before .before .before .before .pre) (c .before .if1 .taken) _ (c .refused .ensures)
 
-slice-aggregate-place : tie.Need-slice-aggregate-place
-slice-aggregate-place c = search needs
+slice-aggregate-copy-cards : tie.Need-slice-aggregate-copy-cards
+slice-aggregate-copy-cards c = search needs
 
-place-requires : tie.Need-place-requires
-place-requires c κs = search needs
+copy-cards-requires : tie.Need-copy-cards-requires
+copy-cards-requires c κs = search needs
 
 empty-requires : tie.Need-empty-requires
 empty-requires c κs = search needs
@@ -29,7 +29,7 @@ same-length c = search needs
 returns-2 : tie.Need-returns-2
 returns-2 c =
     let s = c .before .before .before .before .before .before in
-    started _ _ _ (s .before .before .before .before .pre) (s .if1 .left) _ (c .empty .ensures) _ (c .before .before .before .place .ensures)
+    started _ _ _ (s .before .before .before .before .pre) (s .if1 .left) _ (c .empty .ensures) _ (c .before .before .before .copy-cards .ensures)
 
 pub start-list-spec : {M : Type 1} → statement M
 start-list-spec =
@@ -38,8 +38,8 @@ start-list-spec =
     cast-n
     refused-requires
     returns
-    slice-aggregate-place
-    place-requires
+    slice-aggregate-copy-cards
+    copy-cards-requires
     empty-requires
     same-length
     returns-2)

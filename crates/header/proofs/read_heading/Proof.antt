@@ -14,7 +14,7 @@ use Rattle.header.proofs.read_heading.Statement.{statement}
 use Rattle.header.proofs.read_heading.Tie as tie
 use Rattle.header.proofs.read_heading.Reads as reads
 use Rattle.header.proofs.read_heading.Lts as lts
-use Rattle.header.proofs.judge.Reads as judge-reads
+use Rattle.header.proofs.within_limits.Reads as within-limits-reads
 use Rattle.header.proofs.fields.is_line.Reads as is-line-reads
 use Rattle.header.proofs.fields.number.Reads as number-reads
 
@@ -60,8 +60,8 @@ number-requires-5 c κs =
     let t = c .before .before .before .before in
     asks _ (t .before .before .before .pre) (sym (t .before .is-line .ensures) ∙ t .if1 .taken) 10 4 (omega arith) (omega arith)
 
-judge-requires : tie.Need-judge-requires
-judge-requires c κs = search needs
+within-limits-requires : tie.Need-within-limits-requires
+within-limits-requires c κs = search needs
 
 returns : tie.Need-returns
 returns c =
@@ -73,7 +73,7 @@ returns c =
     (n .before .before .number3 .ensures .0)
     (n .before .number4 .ensures .0)
     (n .number5 .ensures .0)
-    (c .judge .ensures)
+    (c .within-limits .ensures)
 
 returns-2 : tie.Need-returns-2
 returns-2 c = sym (heading-1 _ (sym (c .before .is-line .ensures) ∙ c .if1 .left))
@@ -91,6 +91,6 @@ read-heading-spec =
     cast-t10
     number-requires-4
     number-requires-5
-    judge-requires
+    within-limits-requires
     returns
     returns-2)

@@ -6,8 +6,8 @@ use mathlib.Core.Path.{_≡_, refl}
 use native.Mathlib.Omega.{arith}
 use lib.ListN.{take}
 use lib.Seq.{take-all}
-use Rattle.schedule.specs.Count.{largest}
-use Rattle.schedule.proofs.Lists.{largest-take}
+use Rattle.counting.specs.Count.{largest}
+use Rattle.counting.proofs.Lists.{largest-take}
 use Rattle.schedule.proofs.cycles_in.Statement.{statement}
 use Rattle.schedule.proofs.cycles_in.Tie as tie
 

@@ -37,10 +37,10 @@ use denote.Triple.Table.{entered, cited}
 use denote.Triple.Walked.{says, Stays, stay-none, stay-none-slice, walkOf, goes-none, goes-none-slice, Walks, ends-at, walked, walk-meets}
 use denote.Exit.{yes}
 use denote.Triple.Clauses.{ensured, lasts}
-use Rattle.schedule.specs.declared.Position.{Position}
-use Rattle.schedule.proofs.Position as P
-use Rattle.schedule.proofs.Position.Laws as P′
-use Rattle.ticket.specs.Part.{place}
+use Rattle.counting.specs.declared.Position.{Position}
+use Rattle.counting.proofs.Position as P
+use Rattle.counting.proofs.Position.Laws as P′
+use Rattle.ticket.specs.Part.{address}
 use Rattle.ticket.specs.Ticket.{lineOf, linePlace}
 use Rattle.walker.specs.Walk.{lineAt, placeAt, gives, givesFrom, stepped, movedTo, WalksOn}
 use Rattle.walker.specs.declared.Walker.{Walker}
@@ -76,16 +76,16 @@ abbrev Started : RefT (List ℕ) → Walker → Type 0
 Started s w = WalksOn (now s) 0 w × (w .ticket .ptr ≡ s .ptr)
 
 abbrev Took : Walker → Stepped → Type 0
-Took w x = (now (x .line) ≡ gives w) × (x .line .ptr ≡ place (w .ticket .ptr) (givesFrom w)) × (x .walker ≡ stepped w)
+Took w x = (now (x .line) ≡ gives w) × (x .line .ptr ≡ address (w .ticket .ptr) (givesFrom w)) × (x .walker ≡ stepped w)
 
 abbrev Read : RefT (List ℕ) → Position → RefT (List ℕ) → Type 0
-Read s p r = (now r ≡ lineOf (now s) (p .0)) × (r .ptr ≡ place (s .ptr) (linePlace (now s) (p .0)))
+Read s p r = (now r ≡ lineOf (now s) (p .0)) × (r .ptr ≡ address (s .ptr) (linePlace (now s) (p .0)))
 
 read : (s : RefT (List ℕ)) (p : Position) (w w′ : Walker) (x : Stepped) → Started s w → w′ ≡ movedTo w p → Took w′ x → Read s p (x .line)
 read s p w w′ x e e′ took = (
   took .0 ∙ ap gives e′ ∙ ap (λ (b : List ℕ). lineAt b (p .0)) (e .0 .bytes) ∙ same-line (now s) (p .0),
-  took .1 ∙ ap (λ (y : Walker). place (y .ticket .ptr) (givesFrom y)) e′ ∙ ap (λ (a : ℕ × ℕ). place a (placeAt (now (w .ticket)) (p .0))) (e .1)
-      ∙ ap (λ (b : List ℕ). place (s .ptr) (placeAt b (p .0))) (e .0 .bytes) ∙ ap (place (s .ptr)) (same-place (now s) (p .0)),
+  took .1 ∙ ap (λ (y : Walker). address (y .ticket .ptr) (givesFrom y)) e′ ∙ ap (λ (a : ℕ × ℕ). address a (placeAt (now (w .ticket)) (p .0))) (e .1)
+      ∙ ap (λ (b : List ℕ). address (s .ptr) (placeAt b (p .0))) (e .0 .bytes) ∙ ap (address (s .ptr)) (same-place (now s) (p .0)),
 )
 
 module _ {M : Type 1} (𝓤 : URA M) (H : Heap 𝓤) (A : Atoms 𝓤) (mem : Memory → SProp 𝓤) (run : Routine → Fun 𝓤) where

@@ -14,8 +14,8 @@ Inv-loop plan table₀ n sum₀ c₀ table sum c = (c ≤ n) × Adding plan tabl
 abbrev μ-loop : tie.MeasureT-loop
 μ-loop plan table₀ n sum₀ c₀ table sum c = n - c
 
-place-of-requires : tie.Need-place-of-requires Inv-loop μ-loop
-place-of-requires c κs = search needs
+cycle-index-requires : tie.Need-cycle-index-requires Inv-loop μ-loop
+cycle-index-requires c κs = search needs
 
 add-n : tie.Need-add-n Inv-loop μ-loop
 add-n c = search needs
@@ -26,34 +26,34 @@ loop-holds c = (omega arith, add-first _ _ (c .before .before .before .pre .0))
 mul-sum : tie.Need-mul-sum Inv-loop μ-loop
 mul-sum c =
     let low = c .before .before .before .before .before .pre .1 in
-    let top-is = c .before .before .place-of .ensures in
+    let top-is = c .before .before .cycle-index .ensures in
     omega (arith, top-is, low .top-low)
 
 slice-read-sum : tie.Need-slice-read-sum Inv-loop μ-loop
 slice-read-sum c =
     let inv = c .before .before .loop .inv .1 in
     let low = c .before .before .before .before .before .before .pre .1 in
-    let top-is = c .before .before .before .place-of .ensures in
+    let top-is = c .before .before .before .cycle-index .ensures in
     omega (arith, top-is, low .top-low, inv .long)
 
 add-sum : tie.Need-add-sum Inv-loop μ-loop
 add-sum c =
     let inv = c .before .before .loop .inv .1 in
     let low = c .before .before .before .before .before .before .pre .1 in
-    let top-is = c .before .before .before .place-of .ensures in
+    let top-is = c .before .before .before .cycle-index .ensures in
     omega (arith, add-small inv (omega (arith, top-is, low .top-low)), low .few)
 
 mul-table : tie.Need-mul-table Inv-loop μ-loop
 mul-table c =
     let low = c .before .before .before .before .before .before .pre .1 in
-    let top-is = c .before .before .before .place-of .ensures in
+    let top-is = c .before .before .before .cycle-index .ensures in
     omega (arith, top-is, low .top-low)
 
 slice-write-table : tie.Need-slice-write-table Inv-loop μ-loop
 slice-write-table c =
     let inv = c .before .before .loop .inv .1 in
     let low = c .before .before .before .before .before .before .pre .1 in
-    let top-is = c .before .before .before .place-of .ensures in
+    let top-is = c .before .before .before .cycle-index .ensures in
     omega (arith, top-is, low .top-low, inv .long)
 
 add-c : tie.Need-add-c Inv-loop μ-loop
@@ -66,7 +66,7 @@ loop-again : tie.Need-loop-again Inv-loop μ-loop
 loop-again c =
     let inv = c .before .before .loop .inv .1 in
     let low = c .before .before .before .before .before .before .pre .1 in
-    let top-is = c .before .before .before .place-of .ensures in
+    let top-is = c .before .before .before .cycle-index .ensures in
     (omega arith, add-next inv (omega (arith, top-is, low .top-low)))
 
 same-length : tie.Need-same-length Inv-loop μ-loop
@@ -76,7 +76,7 @@ returns : tie.Need-returns Inv-loop μ-loop
 returns c =
     let inv = c .before .loop .inv .1 in
     let low = c .before .before .before .before .before .pre .1 in
-    let top-is = c .before .before .place-of .ensures in
+    let top-is = c .before .before .cycle-index .ensures in
     added inv _ low (omega (arith, top-is))
 
 pub add-up-spec : {M : Type 1} → statement M
@@ -85,7 +85,7 @@ add-up-spec =
     (tie.spec
     Inv-loop
     μ-loop
-    place-of-requires
+    cycle-index-requires
     add-n
     loop-holds
     mul-sum

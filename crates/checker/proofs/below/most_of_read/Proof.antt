@@ -23,8 +23,8 @@ mul-cycle c = search needs
 shared-slice-read-cycle : tie.Need-shared-slice-read-cycle Inv-loop μ-loop
 shared-slice-read-cycle c = search needs
 
-place-of-requires : tie.Need-place-of-requires Inv-loop μ-loop
-place-of-requires c κs = search needs
+cycle-index-requires : tie.Need-cycle-index-requires Inv-loop μ-loop
+cycle-index-requires c κs = search needs
 
 cast-at : tie.Need-cast-at Inv-loop μ-loop
 cast-at c = search needs
@@ -37,7 +37,7 @@ add-ceiling c =
     let inv = c .before .before .before .before .loop .inv in
     let table = c .before .before .before .before .before .before .before .pre in
     let inside = c .before .before .before .loop-test .taken in
-    let place-is = c .before .place-of .ensures in
+    let place-is = c .before .cycle-index .ensures in
     omega (arith, place-inside inv inside place-is table (c .if1 .taken), table .long)
 
 add-larger : tie.Need-add-larger Inv-loop μ-loop
@@ -45,7 +45,7 @@ add-larger c =
     let inv = c .before .before .before .before .loop .inv in
     let table = c .before .before .before .before .before .before .before .pre in
     let inside = c .before .before .before .loop-test .taken in
-    let place-is = c .before .place-of .ensures in
+    let place-is = c .before .cycle-index .ensures in
     omega (arith, place-inside inv inside place-is table (c .if1 .taken), table .long)
 
 mul-larger : tie.Need-mul-larger Inv-loop μ-loop
@@ -53,7 +53,7 @@ mul-larger c =
     let inv = c .before .before .before .before .loop .inv in
     let table = c .before .before .before .before .before .before .before .pre in
     let inside = c .before .before .before .loop-test .taken in
-    let place-is = c .before .place-of .ensures in
+    let place-is = c .before .cycle-index .ensures in
     omega (arith, place-inside inv inside place-is table (c .if1 .taken), table .long)
 
 shared-slice-read-larger : tie.Need-shared-slice-read-larger Inv-loop μ-loop
@@ -61,7 +61,7 @@ shared-slice-read-larger c =
     let inv = c .before .before .before .before .before .loop .inv in
     let table = c .before .before .before .before .before .before .before .before .pre in
     let inside = c .before .before .before .before .loop-test .taken in
-    let place-is = c .before .before .place-of .ensures in
+    let place-is = c .before .before .cycle-index .ensures in
     let larger = c .before .if1 .taken in
     place-inside inv inside place-is table larger
 
@@ -70,7 +70,7 @@ sub-larger c =
     let inv = c .before .before .before .before .before .loop .inv in
     let table = c .before .before .before .before .before .before .before .before .pre in
     let inside = c .before .before .before .before .loop-test .taken in
-    let place-is = c .before .before .place-of .ensures in
+    let place-is = c .before .before .cycle-index .ensures in
     let larger = c .before .if1 .taken in
     omega (arith, entry-after inv inside place-is table larger)
 
@@ -79,7 +79,7 @@ sub-larger-2 c =
     let inv = c .before .before .before .before .before .loop .inv in
     let table = c .before .before .before .before .before .before .before .before .pre in
     let inside = c .before .before .before .before .loop-test .taken in
-    let place-is = c .before .before .place-of .ensures in
+    let place-is = c .before .before .cycle-index .ensures in
     let larger = c .before .if1 .taken in
     omega (arith, entry-after inv inside place-is table larger)
 
@@ -91,7 +91,7 @@ mul-larger-2 c =
     let inv = c .before .before .before .before .before .before .loop .inv in
     let table = c .before .before .before .before .before .before .before .before .before .pre in
     let inside = c .before .before .before .before .before .loop-test .taken in
-    let place-is = c .before .before .before .place-of .ensures in
+    let place-is = c .before .before .before .cycle-index .ensures in
     let larger = c .before .before .if1 .taken in
     omega (arith, place-inside inv inside place-is table larger, table .long)
 
@@ -100,7 +100,7 @@ shared-slice-read-larger-2 c =
     let inv = c .before .before .before .before .before .before .before .loop .inv in
     let table = c .before .before .before .before .before .before .before .before .before .before .pre in
     let inside = c .before .before .before .before .before .before .loop-test .taken in
-    let place-is = c .before .before .before .before .place-of .ensures in
+    let place-is = c .before .before .before .before .cycle-index .ensures in
     let larger = c .before .before .before .if1 .taken in
     omega (arith, place-inside inv inside place-is table larger)
 
@@ -109,7 +109,7 @@ sub-larger-3 c =
     let inv = c .before .before .before .before .before .before .before .loop .inv in
     let table = c .before .before .before .before .before .before .before .before .before .before .pre in
     let inside = c .before .before .before .before .before .before .loop-test .taken in
-    let place-is = c .before .before .before .before .place-of .ensures in
+    let place-is = c .before .before .before .before .cycle-index .ensures in
     let larger = c .before .before .before .if1 .taken in
     omega (arith, entry-at inv inside place-is table larger)
 
@@ -124,7 +124,7 @@ loop-again c =
     let inv = c .before .before .before .before .before .before .before .before .loop .inv in
     let table = c .before .before .before .before .before .before .before .before .before .before .before .pre in
     let inside = c .before .before .before .before .before .before .before .loop-test .taken in
-    let place-is = c .before .before .before .before .before .place-of .ensures in
+    let place-is = c .before .before .before .before .before .cycle-index .ensures in
     let larger = c .before .before .before .before .if1 .taken in
     read-ahead inv inside place-is table larger (c .before .before .larger .ensures) (c .larger2 .ensures)
 
@@ -135,7 +135,7 @@ loop-again-2 : tie.Need-loop-again-2 Inv-loop μ-loop
 loop-again-2 c =
     let inv = c .before .before .before .before .loop .inv in
     let inside = c .before .before .before .loop-test .taken in
-    let place-is = c .before .place-of .ensures in
+    let place-is = c .before .cycle-index .ensures in
     read-covered inv inside place-is (c .if1 .left)
 
 returns : tie.Need-returns Inv-loop μ-loop
@@ -150,7 +150,7 @@ most-of-read-spec =
     loop-holds
     mul-cycle
     shared-slice-read-cycle
-    place-of-requires
+    cycle-index-requires
     cast-at
     add-i
     add-ceiling

@@ -25,8 +25,8 @@ mul-cycle c = search needs
 shared-slice-read-cycle : tie.Need-shared-slice-read-cycle Inv-loop μ-loop
 shared-slice-read-cycle c = search needs
 
-place-of-requires : tie.Need-place-of-requires Inv-loop μ-loop
-place-of-requires c κs = search needs
+cycle-index-requires : tie.Need-cycle-index-requires Inv-loop μ-loop
+cycle-index-requires c κs = search needs
 
 cast-larger : tie.Need-cast-larger Inv-loop μ-loop
 cast-larger c = search needs
@@ -36,7 +36,7 @@ mul-larger c =
     let inv = c .before .before .before .before .loop .inv in
     let table = c .before .before .before .before .before .before .before .pre in
     let some-left = c .before .before .before .loop-test .taken in
-    let place-is = c .before .place-of .ensures in
+    let place-is = c .before .cycle-index .ensures in
     omega (arith, save-place inv table some-left place-is (c .if1 .taken), table .long)
 
 shared-slice-read-larger : tie.Need-shared-slice-read-larger Inv-loop μ-loop
@@ -44,7 +44,7 @@ shared-slice-read-larger c =
     let inv = c .before .before .before .before .before .loop .inv in
     let table = c .before .before .before .before .before .before .before .before .pre in
     let some-left = c .before .before .before .before .loop-test .taken in
-    let place-is = c .before .before .place-of .ensures in
+    let place-is = c .before .before .cycle-index .ensures in
     let smaller = c .before .if1 .taken in
     save-place inv table some-left place-is smaller
 
@@ -53,7 +53,7 @@ sub-larger c =
     let inv = c .before .before .before .before .before .loop .inv in
     let table = c .before .before .before .before .before .before .before .before .pre in
     let some-left = c .before .before .before .before .loop-test .taken in
-    let place-is = c .before .before .place-of .ensures in
+    let place-is = c .before .before .cycle-index .ensures in
     let smaller = c .before .if1 .taken in
     omega (arith, save-entry inv table some-left place-is smaller)
 
@@ -68,7 +68,7 @@ loop-again c =
     let inv = c .before .before .before .before .before .before .loop .inv in
     let table = c .before .before .before .before .before .before .before .before .before .pre in
     let some-left = c .before .before .before .before .before .loop-test .taken in
-    let place-is = c .before .before .before .place-of .ensures in
+    let place-is = c .before .before .before .cycle-index .ensures in
     let smaller = c .before .before .if1 .taken in
     save-ahead inv table some-left place-is smaller (c .larger .ensures)
 
@@ -80,7 +80,7 @@ loop-again-2 c =
     let inv = c .before .before .before .before .loop .inv in
     let table = c .before .before .before .before .before .before .before .pre in
     let some-left = c .before .before .before .loop-test .taken in
-    let place-is = c .before .place-of .ensures in
+    let place-is = c .before .cycle-index .ensures in
     save-covers inv table some-left place-is (c .if1 .left)
 
 returns : tie.Need-returns Inv-loop μ-loop
@@ -96,7 +96,7 @@ most-of-save-spec =
     sub-i
     mul-cycle
     shared-slice-read-cycle
-    place-of-requires
+    cycle-index-requires
     cast-larger
     mul-larger
     shared-slice-read-larger

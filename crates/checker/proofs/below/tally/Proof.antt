@@ -23,29 +23,29 @@ mul-cycle c = search needs
 shared-slice-read-cycle : tie.Need-shared-slice-read-cycle Inv-loop μ-loop
 shared-slice-read-cycle c = search needs
 
-place-of-requires : tie.Need-place-of-requires Inv-loop μ-loop
-place-of-requires c κs = search needs
+cycle-index-requires : tie.Need-cycle-index-requires Inv-loop μ-loop
+cycle-index-requires c κs = search needs
 
 add-c : tie.Need-add-c Inv-loop μ-loop
 add-c c =
     let inv = c .before .before .before .loop .inv in
     let low = c .before .before .before .before .before .before .pre .1 in
     let inside = c .before .before .loop-test .taken in
-    omega (arith, tally-place inv low inside (c .place-of .ensures))
+    omega (arith, tally-place inv low inside (c .cycle-index .ensures))
 
 mul-table : tie.Need-mul-table Inv-loop μ-loop
 mul-table c =
     let inv = c .before .before .before .loop .inv in
     let low = c .before .before .before .before .before .before .pre .1 in
     let inside = c .before .before .loop-test .taken in
-    omega (arith, tally-place inv low inside (c .place-of .ensures))
+    omega (arith, tally-place inv low inside (c .cycle-index .ensures))
 
 slice-read-table : tie.Need-slice-read-table Inv-loop μ-loop
 slice-read-table c =
     let inv = c .before .before .before .before .loop .inv in
     let low = c .before .before .before .before .before .before .before .pre .1 in
     let inside = c .before .before .before .loop-test .taken in
-    let place-is = c .before .place-of .ensures in
+    let place-is = c .before .cycle-index .ensures in
     omega (arith, tally-place inv low inside place-is, inv .long)
 
 add-table : tie.Need-add-table Inv-loop μ-loop
@@ -53,7 +53,7 @@ add-table c =
     let inv = c .before .before .before .before .loop .inv in
     let low = c .before .before .before .before .before .before .before .pre .1 in
     let inside = c .before .before .before .loop-test .taken in
-    let place-is = c .before .place-of .ensures in
+    let place-is = c .before .cycle-index .ensures in
     omega (arith, tally-small inv low inside place-is)
 
 mul-table-2 : tie.Need-mul-table-2 Inv-loop μ-loop
@@ -61,7 +61,7 @@ mul-table-2 c =
     let inv = c .before .before .before .before .loop .inv in
     let low = c .before .before .before .before .before .before .before .pre .1 in
     let inside = c .before .before .before .loop-test .taken in
-    let place-is = c .before .place-of .ensures in
+    let place-is = c .before .cycle-index .ensures in
     omega (arith, tally-place inv low inside place-is)
 
 slice-write-table : tie.Need-slice-write-table Inv-loop μ-loop
@@ -69,7 +69,7 @@ slice-write-table c =
     let inv = c .before .before .before .before .loop .inv in
     let low = c .before .before .before .before .before .before .before .pre .1 in
     let inside = c .before .before .before .loop-test .taken in
-    let place-is = c .before .place-of .ensures in
+    let place-is = c .before .cycle-index .ensures in
     omega (arith, tally-place inv low inside place-is, inv .long)
 
 add-i : tie.Need-add-i Inv-loop μ-loop
@@ -83,7 +83,7 @@ loop-again c =
     let inv = c .before .before .before .before .loop .inv in
     let low = c .before .before .before .before .before .before .before .pre .1 in
     let inside = c .before .before .before .loop-test .taken in
-    let place-is = c .before .place-of .ensures in
+    let place-is = c .before .cycle-index .ensures in
     tally-next inv low inside place-is
 
 same-length : tie.Need-same-length Inv-loop μ-loop
@@ -101,7 +101,7 @@ tally-spec =
     loop-holds
     mul-cycle
     shared-slice-read-cycle
-    place-of-requires
+    cycle-index-requires
     add-c
     mul-table
     slice-read-table

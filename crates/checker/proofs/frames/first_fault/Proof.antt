@@ -18,25 +18,25 @@ abbrev μ-loop : tie.MeasureT-loop
 loop-holds : tie.Need-loop-holds Inv-loop μ-loop
 loop-holds c = frames-first _ _ _ _
 
-shared-slice-read-card-place : tie.Need-shared-slice-read-card-place Inv-loop μ-loop
-shared-slice-read-card-place c = search needs
+shared-slice-read-card-index : tie.Need-shared-slice-read-card-index Inv-loop μ-loop
+shared-slice-read-card-index c = search needs
 
-card-place-requires : tie.Need-card-place-requires Inv-loop μ-loop
-card-place-requires c κs = search needs
+card-index-requires : tie.Need-card-index-requires Inv-loop μ-loop
+card-index-requires c κs = search needs
 
 mul-late : tie.Need-mul-late Inv-loop μ-loop
 mul-late c =
     let inv = c .before .before .before .loop .inv in
     let checking = c .before .before .before .before .before .before .pre .0 in
     let inside = c .before .before .loop-test .taken in
-    omega (arith, card-inside inv checking inside (c .card-place .ensures))
+    omega (arith, card-inside inv checking inside (c .card-index .ensures))
 
 array-read-late : tie.Need-array-read-late Inv-loop μ-loop
 array-read-late c =
     let inv = c .before .before .before .loop .inv in
     let checking = c .before .before .before .before .before .before .pre .0 in
     let inside = c .before .before .loop-test .taken in
-    card-inside inv checking inside (c .card-place .ensures)
+    card-inside inv checking inside (c .card-index .ensures)
 
 mul-larger : tie.Need-mul-larger Inv-loop μ-loop
 mul-larger c = search needs
@@ -54,7 +54,7 @@ mul-latest c =
     let inv = c .before .before .before .before .before .loop .inv in
     let checking = c .before .before .before .before .before .before .before .before .pre .0 in
     let inside = c .before .before .before .before .loop-test .taken in
-    let card-is = c .before .before .card-place .ensures in
+    let card-is = c .before .before .card-index .ensures in
     omega (arith, card-inside inv checking inside card-is)
 
 array-write-latest : tie.Need-array-write-latest Inv-loop μ-loop
@@ -62,7 +62,7 @@ array-write-latest c =
     let inv = c .before .before .before .before .before .loop .inv in
     let checking = c .before .before .before .before .before .before .before .before .pre .0 in
     let inside = c .before .before .before .before .loop-test .taken in
-    let card-is = c .before .before .card-place .ensures in
+    let card-is = c .before .before .card-index .ensures in
     card-inside inv checking inside card-is
 
 frame-requires : tie.Need-frame-requires Inv-loop μ-loop
@@ -71,7 +71,7 @@ frame-requires c κs =
     let checking = c .before .before .before .before .before .before .before .before .pre .0 in
     let roomy = c .before .before .before .before .before .before .before .before .pre .1 in
     let inside = c .before .before .before .before .loop-test .taken in
-    let card-is = c .before .before .card-place .ensures in
+    let card-is = c .before .before .card-index .ensures in
     (checking, inside, none-after inv checking inside card-is, roomy)
 
 add-i : tie.Need-add-i Inv-loop μ-loop
@@ -85,7 +85,7 @@ returns c =
     let inv = c .before .before .before .before .before .before .before .before .loop .inv in
     let checking = c .before .before .before .before .before .before .before .before .before .before .before .pre .0 in
     let inside = c .before .before .before .before .before .before .before .loop-test .taken in
-    let card-is = c .before .before .before .before .before .card-place .ensures in
+    let card-is = c .before .before .before .before .before .card-index .ensures in
     let verdict-is = c .before .before .frame .ensures in
     let valid-is = c .before .is-valid .ensures in
     first-fault inv checking inside card-is verdict-is (sym valid-is ∙ not-true _ (c .if1 .taken))
@@ -98,7 +98,7 @@ loop-again c =
     let inv = c .before .before .before .before .before .before .before .before .loop .inv in
     let checking = c .before .before .before .before .before .before .before .before .before .before .before .pre .0 in
     let inside = c .before .before .before .before .before .before .before .loop-test .taken in
-    let card-is = c .before .before .before .before .before .card-place .ensures in
+    let card-is = c .before .before .before .before .before .card-index .ensures in
     let verdict-is = c .before .before .frame .ensures in
     let valid-is = c .before .is-valid .ensures in
     let latest-is = c .before .before .before .larger .ensures in
@@ -114,8 +114,8 @@ first-fault-spec =
     Inv-loop
     μ-loop
     loop-holds
-    shared-slice-read-card-place
-    card-place-requires
+    shared-slice-read-card-index
+    card-index-requires
     mul-late
     array-read-late
     mul-larger

@@ -1,7 +1,7 @@
 -- `firmware::checks::cycles_needed` meets its contract.
 -- Assumes nothing.
 use mathlib.Core.Path.{sym, ap}
-use Rattle.replay.specs.Numbers.{neededIn}
+use Rattle.plan_run.specs.Numbers.{neededIn}
 use borrow.Author.Needs.{needs}
 use Rattle.firmware.proofs.checks.cycles_needed.Statement.{statement}
 use Rattle.firmware.proofs.checks.cycles_needed.Tie as tie

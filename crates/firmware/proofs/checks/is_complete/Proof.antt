@@ -2,7 +2,7 @@
 -- Assumes nothing.
 use mathlib.Core.Path.{sym, ap}
 use borrow.Author.Needs.{needs}
-use Rattle.replay.specs.Numbers.{completeIn}
+use Rattle.plan_run.specs.Numbers.{completeIn}
 use Rattle.firmware.proofs.checks.is_complete.Statement.{statement}
 use Rattle.firmware.proofs.checks.is_complete.Tie as tie
 

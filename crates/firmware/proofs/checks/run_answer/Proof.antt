@@ -1,7 +1,7 @@
 -- `firmware::checks::run_answer` meets its contract.
 -- Assumes nothing.
 use mathlib.Core.Path.{sym, ap, _∙_}
-use Rattle.replay.specs.Numbers.{numbersOf}
+use Rattle.plan_run.specs.Numbers.{numbersOf}
 use Rattle.firmware.specs.Answers.{runAnswer}
 use borrow.Author.Needs.{needs}
 use Rattle.firmware.proofs.checks.run_answer.Statement.{statement}

@@ -5,8 +5,8 @@ use mathlib.Core.Path.{_≡_, refl}
 use native.Mathlib.Omega.{arith}
 use lib.ListN.{take}
 use lib.Seq.{take-all}
-use Rattle.schedule.specs.Count.{largest}
-use Rattle.schedule.proofs.Lists.{largest-take}
+use Rattle.counting.specs.Count.{largest}
+use Rattle.counting.proofs.Lists.{largest-take}
 use borrow.Author.Needs.{needs}
 use Rattle.planner.proofs.pass.largest.Statement.{statement}
 use Rattle.planner.proofs.pass.largest.Tie as tie

@@ -29,20 +29,20 @@ made-low c =
 add-made : tie.Need-add-made Inv-loop μ-loop
 add-made c = omega (arith, made-low (c .before))
 
-cycle-place-requires : tie.Need-cycle-place-requires Inv-loop μ-loop
-cycle-place-requires c κs = search needs
+cycle-index-requires : tie.Need-cycle-index-requires Inv-loop μ-loop
+cycle-index-requires c κs = search needs
 
 mul-waiting : tie.Need-mul-waiting Inv-loop μ-loop
 mul-waiting c = search needs
 
 array-read-waiting : tie.Need-array-read-waiting Inv-loop μ-loop
-array-read-waiting c = omega (arith, c .cycle-place .ensures, made-low (c .before .before))
+array-read-waiting c = omega (arith, c .cycle-index .ensures, made-low (c .before .before))
 
 sub-waiting : tie.Need-sub-waiting Inv-loop μ-loop
 sub-waiting c =
     let full = c .before .before in
     let turn = full .before .before in
-    rw (c .cycle-place .ensures)
+    rw (c .cycle-index .ensures)
     (tables.due-le-waiting (turn .before .before .before .pre) (turn .loop .inv) (full .before .loop-test .taken) (full .if1 .taken))
 
 -- the pool is full and a cycle is made, or there is room
@@ -59,19 +59,19 @@ opened c =
     (λ w. rw (w .1, w .2) (tables.room-left f v (c .before .loop-test .taken) (w .0 .left)))
     (c .if1 .came)
 
-place-of-requires : tie.Need-place-of-requires Inv-loop μ-loop
-place-of-requires c κs = search needs
+taken-at-requires : tie.Need-taken-at-requires Inv-loop μ-loop
+taken-at-requires c κs = search needs
 
-shared-slice-read-card-place : tie.Need-shared-slice-read-card-place Inv-loop μ-loop
-shared-slice-read-card-place c = c .before .place-of .ensures .1
+shared-slice-read-card-index : tie.Need-shared-slice-read-card-index Inv-loop μ-loop
+shared-slice-read-card-index c = c .before .taken-at .ensures .1
 
-card-place-requires : tie.Need-card-place-requires Inv-loop μ-loop
-card-place-requires c κs = search needs
+card-index-requires : tie.Need-card-index-requires Inv-loop μ-loop
+card-index-requires c κs = search needs
 
-card-in : (c : tie.After-card-place Inv-loop μ-loop) → c .card-place .result < 32
+card-in : (c : tie.After-card-index Inv-loop μ-loop) → c .card-index .result < 32
 card-in c =
     let f = c .before .before .before .before .before .before .before .before .pre in
-    omega (arith, f .each-card (c .before .before .place-of .result) (c .before .before .place-of .ensures .1), c .card-place .ensures)
+    omega (arith, f .each-card (c .before .before .taken-at .result) (c .before .before .taken-at .ensures .1), c .card-index .ensures)
 
 mul-last : tie.Need-mul-last Inv-loop μ-loop
 mul-last c = omega (arith, card-in c)
@@ -82,10 +82,10 @@ array-read-last c = card-in c
 next-cycle-requires : tie.Need-next-cycle-requires Inv-loop μ-loop
 next-cycle-requires c κs =
     let o = opened (c .before .before .before) in
-    omega (arith, o .latest-low (c .card-place .result), o .made-low)
+    omega (arith, o .latest-low (c .card-index .result), o .made-low)
 
-cycle-place-requires-2 : tie.Need-cycle-place-requires-2 Inv-loop μ-loop
-cycle-place-requires-2 c κs = search needs
+cycle-index-requires-2 : tie.Need-cycle-index-requires-2 Inv-loop μ-loop
+cycle-index-requires-2 c κs = search needs
 
 mul-latest : tie.Need-mul-latest Inv-loop μ-loop
 mul-latest c = omega (arith, card-in (c .before .before))
@@ -93,10 +93,10 @@ mul-latest c = omega (arith, card-in (c .before .before))
 array-write-latest : tie.Need-array-write-latest Inv-loop μ-loop
 array-write-latest c = card-in (c .before .before)
 
-cycle-in : (c : tie.After-cycle-place2 Inv-loop μ-loop) → c .cycle-place2 .result ≤ 4096
+cycle-in : (c : tie.After-cycle-index2 Inv-loop μ-loop) → c .cycle-index2 .result ≤ 4096
 cycle-in c =
     let o = opened (c .before .before .before .before .before) in
-    omega (arith, c .cycle-place2 .ensures, c .before .next-cycle .ensures, o .latest-low (c .before .before .card-place .result), o .made-low)
+    omega (arith, c .cycle-index2 .ensures, c .before .next-cycle .ensures, o .latest-low (c .before .before .card-index .result), o .made-low)
 
 mul-due : tie.Need-mul-due Inv-loop μ-loop
 mul-due c = omega (arith, cycle-in c)
@@ -105,7 +105,7 @@ array-read-due : tie.Need-array-read-due Inv-loop μ-loop
 array-read-due c = omega (arith, cycle-in c)
 
 add-due : tie.Need-add-due Inv-loop μ-loop
-add-due c = omega (arith, opened (c .before .before .before .before .before) .due-low (c .cycle-place2 .result) (cycle-in c))
+add-due c = omega (arith, opened (c .before .before .before .before .before) .due-low (c .cycle-index2 .result) (cycle-in c))
 
 mul-due-2 : tie.Need-mul-due-2 Inv-loop μ-loop
 mul-due-2 c = omega (arith, cycle-in c)
@@ -115,15 +115,15 @@ array-write-due c = omega (arith, cycle-in c)
 
 mul-out : tie.Need-mul-out Inv-loop μ-loop
 mul-out c =
-    let place = c .before .before .before .before in
-    let start = place .before .before .before .before .before .before in
-    omega (arith, place .place-of .ensures .1, start .pre .few)
+    let takenAt = c .before .before .before .before in
+    let start = takenAt .before .before .before .before .before .before in
+    omega (arith, takenAt .taken-at .ensures .1, start .pre .few)
 
 slice-write-out : tie.Need-slice-write-out Inv-loop μ-loop
 slice-write-out c =
-    let place = c .before .before .before .before in
-    let turn = place .before .before .before in
-    omega (arith, place .place-of .ensures .1, turn .loop .inv .same-out, turn .before .before .before .pre .room)
+    let takenAt = c .before .before .before .before in
+    let turn = takenAt .before .before .before in
+    omega (arith, takenAt .taken-at .ensures .1, turn .loop .inv .same-out, turn .before .before .before .pre .room)
 
 add-waiting : tie.Need-add-waiting Inv-loop μ-loop
 add-waiting c = omega (arith, opened (c .before .before .before .before .before .before) .waiting-low)
@@ -138,11 +138,11 @@ loop-again : tie.Need-loop-again Inv-loop μ-loop
 loop-again c =
     let cycle = c .before .before in
     let card = cycle .before in
-    let place = card .before .before in
-    let room = place .before in
+    let takenAt = card .before .before in
+    let room = takenAt .before in
     let turn = room .before .before in
     tables.next-turn (turn .before .before .before .pre) (turn .loop .inv) (room .before .loop-test .taken) (opened room)
-    (place .place-of .ensures .0) (card .card-place .ensures) (cycle .next-cycle .ensures) (c .before .cycle-place2 .ensures)
+    (takenAt .taken-at .ensures .0) (card .card-index .ensures) (cycle .next-cycle .ensures) (c .before .cycle-index2 .ensures)
 
 largest-requires : tie.Need-largest-requires Inv-loop μ-loop
 largest-requires c κs = c .before .before .loop .inv .long-latest
@@ -163,17 +163,17 @@ pass-spec =
     μ-loop
     loop-holds
     add-made
-    cycle-place-requires
+    cycle-index-requires
     mul-waiting
     array-read-waiting
     sub-waiting
-    place-of-requires
-    shared-slice-read-card-place
-    card-place-requires
+    taken-at-requires
+    shared-slice-read-card-index
+    card-index-requires
     mul-last
     array-read-last
     next-cycle-requires
-    cycle-place-requires-2
+    cycle-index-requires-2
     mul-latest
     array-write-latest
     mul-due

@@ -6,8 +6,8 @@ use mathlib.Core.List.{_++_}
 use native.Mathlib.Omega.{arith}
 use denote.Ref.{now}
 use lib.ListN.{length, drop, length-set}
-use Rattle.schedule.specs.Count.{tabulate}
-use Rattle.schedule.proofs.Lists.{fill}
+use Rattle.counting.specs.Count.{tabulate}
+use Rattle.counting.proofs.Lists.{fill}
 use Rattle.ticket.specs.Ticket.{lineBytes, cardAt, linesFault}
 use Rattle.ticket.proofs.Faults.{too-high, other-end, is-card, passes}
 use borrow.Author.Needs.{needs}

@@ -11,7 +11,6 @@ use Rattle.ticket.proofs.tally.tally.Statement.{statement}
 use Rattle.ticket.proofs.tally.tally.Tie as tie
 use Rattle.ticket.proofs.tally.tally.Reads as reads
 use Rattle.ticket.proofs.tally.tally.Lts as lts
-use Rattle.ticket.proofs.tally.place.Reads as place-reads
 
 abbrev Inv-loop : tie.InvT-loop
 Inv-loop card n end count₀ i₀ count i = (i ≤ n) × (count ≡ countsUpTo card i)
@@ -22,11 +21,11 @@ abbrev μ-loop : tie.MeasureT-loop
 loop-holds : tie.Need-loop-holds Inv-loop μ-loop
 loop-holds c = (omega arith, refl)
 
-shared-slice-read-place : tie.Need-shared-slice-read-place Inv-loop μ-loop
-shared-slice-read-place c = search needs
+shared-slice-read-card-index : tie.Need-shared-slice-read-card-index Inv-loop μ-loop
+shared-slice-read-card-index c = search needs
 
-place-requires : tie.Need-place-requires Inv-loop μ-loop
-place-requires c κs = search needs
+card-index-requires : tie.Need-card-index-requires Inv-loop μ-loop
+card-index-requires c κs = search needs
 
 mul-count : tie.Need-mul-count Inv-loop μ-loop
 mul-count c =
@@ -42,7 +41,7 @@ add-count : tie.Need-add-count Inv-loop μ-loop
 add-count c =
     let l = c .before .before .before .loop in
     let a = c .before .before .before .before .before in
-    let small = count-small (now (a .args .card)) (l .count) (l .i) (l .inv .1) (a .pre .2 (l .i) (omega arith)) _ (c .place .ensures) in
+    let small = count-small (now (a .args .card)) (l .count) (l .i) (l .inv .1) (a .pre .2 (l .i) (omega arith)) _ (c .card-index .ensures) in
     omega (arith, small)
 
 mul-count-2 : tie.Need-mul-count-2 Inv-loop μ-loop
@@ -65,7 +64,7 @@ loop-again : tie.Need-loop-again Inv-loop μ-loop
 loop-again c =
     let l = c .before .before .before .loop in
     let a = c .before .before .before .before .before in
-    (omega arith, count-next (now (a .args .card)) (l .count) (l .i) (l .inv .1) (a .pre .2 (l .i) (omega arith)) _ (c .place .ensures))
+    (omega arith, count-next (now (a .args .card)) (l .count) (l .i) (l .inv .1) (a .pre .2 (l .i) (omega arith)) _ (c .card-index .ensures))
 
 returns : tie.Need-returns Inv-loop μ-loop
 returns c =
@@ -80,8 +79,8 @@ tally-spec =
     Inv-loop
     μ-loop
     loop-holds
-    shared-slice-read-place
-    place-requires
+    shared-slice-read-card-index
+    card-index-requires
     mul-count
     array-read-count
     add-count

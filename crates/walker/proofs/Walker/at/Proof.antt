@@ -31,9 +31,9 @@ use denote.Triple.Spec.{Meets, tripleOf}
 use denote.Triple.Table.{entered}
 use denote.Triple.Walked.{says, Stays, stay-none, walkOf, goes-none, Walks, ends-at, walked, walk-meets}
 use denote.Exit.{yes}
-use Rattle.schedule.specs.declared.Position.{Position}
-use Rattle.schedule.proofs.Position as P
-use Rattle.schedule.proofs.Position.Laws as P′
+use Rattle.counting.specs.declared.Position.{Position}
+use Rattle.counting.proofs.Position as P
+use Rattle.counting.proofs.Position.Laws as P′
 use Rattle.walker.specs.Walk.{movedTo}
 use Rattle.walker.specs.declared.Walker.{Walker}
 use Rattle.walker.proofs.Held.{WalkerT, position-makes}

@@ -38,9 +38,9 @@ use denote.Triple.Table.{entered, cited}
 use denote.Triple.Walked.{says, Stays, stay-none-slice, walkOf, goes-none-slice, Walks, ends-at, walked, walk-meets}
 use denote.Exit.{yes}
 use denote.Triple.Clauses.{ensured, lasts}
-use Rattle.schedule.specs.declared.Position.{Position}
-use Rattle.schedule.proofs.Position as P
-use Rattle.schedule.proofs.Position.Laws as P′
+use Rattle.counting.specs.declared.Position.{Position}
+use Rattle.counting.proofs.Position as P
+use Rattle.counting.proofs.Position.Laws as P′
 use Rattle.walker.specs.Walk.{opened}
 use Rattle.walker.specs.declared.Walker.{Walker}
 use Rattle.walker.proofs.Held.{value, position-makes}

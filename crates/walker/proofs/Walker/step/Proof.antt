@@ -39,10 +39,10 @@ use denote.Triple.Table.{entered, cited}
 use denote.Triple.Walked.{says, Stays, stay-none, walkOf, goes-none, Walks, ends-at, walked, walk-meets}
 use denote.Exit.{yes}
 use denote.Triple.Clauses.{ensured, lasts}
-use Rattle.schedule.specs.declared.Position.{Position}
-use Rattle.schedule.proofs.Position as P
-use Rattle.schedule.proofs.Position.Laws as P′
-use Rattle.ticket.specs.Part.{place}
+use Rattle.counting.specs.declared.Position.{Position}
+use Rattle.counting.proofs.Position as P
+use Rattle.counting.proofs.Position.Laws as P′
+use Rattle.ticket.specs.Part.{address}
 use Rattle.walker.specs.Walk.{nextAt, gives, givesFrom, movedTo}
 use Rattle.walker.specs.declared.Walker.{Walker}
 use Rattle.walker.specs.declared.Stepped.{Stepped}
@@ -134,7 +134,7 @@ module _ {M : Type 1} (𝓤 : URA M) (H : Heap 𝓤) (A : Atoms 𝓤) (W : Given
       move ! (1 ∷ []) $ fsplit ! $ move ! (1 ∷ []) $ drop ! $ move ! (1 ∷ 0 ∷ []) $ by ! (apart (LineAt 𝓤 H A mem run .pre to-line) line-asked)
 
   abbrev FoundLine : RefT (List ℕ) → Type 0
-  FoundLine r = (now r ≡ gives d) × (r .ptr ≡ place (d .ticket .ptr) (givesFrom d))
+  FoundLine r = (now r ≡ gives d) × (r .ptr ≡ address (d .ticket .ptr) (givesFrom d))
 
   abbrev FoundNext : Position → Type 0
   FoundNext n = n .0 ≡ nextAt (now (d .ticket)) (d .next .0)

@@ -1,0 +1,2 @@
+pub mod Count
+pub mod Frames

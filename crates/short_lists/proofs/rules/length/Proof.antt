@@ -1,0 +1,34 @@
+-- `exhaustive::rules::length` meets its contract.
+-- Assumes nothing.
+use Prim.Native.Nat.{_≤_, _-_}
+use borrow.Author.Needs.{needs}
+use Rattle.short_lists.proofs.rules.length.Statement.{statement}
+use Rattle.short_lists.proofs.rules.length.Tie as tie
+
+abbrev Inv-loop : tie.InvT-loop
+Inv-loop plan n top₀ i₀ top i = i ≤ n
+
+abbrev μ-loop : tie.MeasureT-loop
+μ-loop plan n top₀ i₀ top i = n - i
+
+loop-holds : tie.Need-loop-holds Inv-loop μ-loop
+loop-holds c = search needs
+
+at-requires : tie.Need-at-requires Inv-loop μ-loop
+at-requires c κs = search needs
+
+add-i : tie.Need-add-i Inv-loop μ-loop
+add-i c = search needs
+
+loop-less : tie.Need-loop-less Inv-loop μ-loop
+loop-less c = search needs
+
+loop-again : tie.Need-loop-again Inv-loop μ-loop
+loop-again c = search needs
+
+returns : tie.Need-returns Inv-loop μ-loop
+returns c = search needs
+
+pub length-spec : {M : Type 1} → statement M
+length-spec =
+    tie.close (tie.spec Inv-loop μ-loop loop-holds at-requires add-i loop-less loop-again returns)
