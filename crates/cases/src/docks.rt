@@ -3,10 +3,10 @@
 use crate::output;
 use crate::tables;
 use crate::tables::Show;
+use counting::Position;
 use dock::Dock;
 use dock::Driven;
 use dock::Step;
-use counting::Position;
 
 // The dock's counts, and whether it is broken off, any card has read, card 0 has, and card 1 has.
 fn state(d: Dock) {

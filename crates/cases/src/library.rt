@@ -5,6 +5,7 @@ use crate::output;
 use crate::savers;
 use crate::tables;
 use crate::tables::Show;
+use counting::Position;
 use firmware::checks::dockplan_check;
 use firmware::checks::dockplan_run_plan;
 use firmware::plans::dockplan_plan;
@@ -17,7 +18,6 @@ use firmware::tickets::dockplan_line;
 use firmware::tickets::dockplan_line_refusal;
 use firmware::tickets::dockplan_parse;
 use saver::Saver;
-use counting::Position;
 
 fn flag(yes: bool) {
     if yes {

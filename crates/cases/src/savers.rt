@@ -1,9 +1,9 @@
 // The saver: each call on a line, with its answer and the record that comes back.
 ghost use Rattle.saver.specs.Calls.{Given};
 use crate::output;
+use counting::Position;
 use saver::Answer;
 use saver::Saver;
-use counting::Position;
 
 // The entry of a card that writes nothing.
 const NONE: u16 = 65535;

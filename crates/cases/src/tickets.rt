@@ -2,8 +2,8 @@
 use crate::output;
 use crate::tables;
 use crate::tables::Show;
-use header::Answer;
 use counting::Position;
+use header::Answer;
 
 // The five fields of a header, or the number of its refusal.
 fn fields(a: Answer) {

@@ -13,10 +13,10 @@ mod frames;
 mod peak;
 mod verdicts;
 
-use header::Header;
-use header::limits;
 use counting::Cycle;
 use counting::Position;
+use header::Header;
+use header::limits;
 
 // A valid plan has T and, for a read, the peak of its run on a dock with a buffer for every frame. Otherwise the lowest position at fault
 // is named with the first of its faults; or the call is refused.

@@ -10,8 +10,8 @@ use crate::Verdict;
 use crate::below;
 use crate::frames;
 use crate::peak;
-use header::limits;
 use counting::Cycle;
+use header::limits;
 
 // A valid verdict gets its T and peak; a fault stays.
 fn complete(v: Verdict, top: Cycle, peak: u16) -> Verdict

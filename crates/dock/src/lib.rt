@@ -10,8 +10,8 @@ ghost use Rattle.dock.specs.Drive.{driveOf, memoryDriven, Follows};
 
 mod steps;
 
-use header::Header;
 use counting::Position;
+use header::Header;
 
 // A step. Positions past the list are against the rules.
 pub enum Step {

@@ -10,10 +10,10 @@ ghost use Rattle.plan_run.specs.Chain.{Small, Unlinked, Chains};
 use crate::cycle;
 use crate::track;
 use crate::track::Progress;
-use dock::Step;
-use header::limits;
 use counting::Cycle;
 use counting::Position;
+use dock::Step;
+use header::limits;
 
 // Stands for no position.
 const NONE: u16 = 65535;

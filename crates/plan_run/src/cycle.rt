@@ -6,9 +6,9 @@ ghost use Rattle.header.specs.Limits.{maxFrames};
 ghost use Rattle.plan_run.specs.Progress.{ReadsMade, CyclesMade, Next};
 use crate::track;
 use crate::track::Progress;
-use dock::Step;
 use counting::Cycle;
 use counting::Position;
+use dock::Step;
 
 fn position(i: usize) -> Position
     requires { ⌜ i ≤ maxFrames ⌝ }

@@ -10,8 +10,8 @@ mod chain;
 mod cycle;
 mod track;
 
-use header::Header;
 use counting::Cycle;
+use header::Header;
 
 // What a run comes to: all frames handed over, with the cycles needed for it, or not.
 pub enum Outcome {

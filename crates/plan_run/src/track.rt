@@ -8,9 +8,9 @@ ghost use Rattle.plan_run.specs.Run.{outcomeOf};
 ghost use Rattle.plan_run.specs.Progress.{Tracked, lastCycle, atStart, answered};
 use crate::Outcome;
 use crate::Run;
+use counting::Cycle;
 use dock::Dock;
 use dock::Step;
-use counting::Cycle;
 
 // The dock after some steps; whether they have handed all frames over, the cycles needed for that, 0 before it; and the peak.
 pub(crate) struct Progress {

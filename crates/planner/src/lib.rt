@@ -10,8 +10,8 @@ ghost use Rattle.planner.specs.Demand3.{Demand3};
 mod modes;
 mod pass;
 
-use header::Header;
 use counting::Cycle;
+use header::Header;
 
 // A plan of T cycles, or the number of a refusal.
 pub enum Answer {

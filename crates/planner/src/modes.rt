@@ -7,8 +7,8 @@ ghost use Rattle.greedy_pass.specs.AsOf.{asOf};
 ghost use Rattle.planner.specs.Pass.{Asked, onFirst, Filled};
 ghost use Rattle.planner.specs.Plan.{planFor};
 use crate::pass;
-use header::limits;
 use counting::Cycle;
+use header::limits;
 
 // Cycle c of a schedule of t cycles becomes t − c + 1, at the first n places.
 fn turn_round(out: &mut [u16], n: usize, t: Cycle)

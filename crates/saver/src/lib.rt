@@ -6,9 +6,9 @@ ghost use Rattle.saver.specs.Follows.{SaveFollows, CloseFollows};
 
 mod steps;
 
-use header::limits;
 use counting::Cycle;
 use counting::Position;
+use header::limits;
 
 // The frames in the pool stand at the first places of `card` and `position`, oldest first; the places after them are 0.
 #[repr(C)]

@@ -1,7 +1,6 @@
 // The length of a schedule. The theory of schedules and of the dock is in specs/ and proofs/.
 ghost use mathlib.Core.Path.{_≡_};
 ghost use Rattle.schedule.specs.Schedule.{cyclesIn};
-
 use counting::Cycle;
 
 // The number of cycles of a schedule: its largest cycle number, 0 for no frames.

@@ -3,10 +3,10 @@ ghost use Rattle.saver.specs.Calls.{Given};
 use crate::greedy;
 use crate::lists;
 use crate::report;
-use saver::Answer;
-use saver::Saver;
 use counting::Cycle;
 use counting::Position;
+use saver::Answer;
+use saver::Saver;
 
 // Notes what one card wrote in a cycle. What is not a frame of this card, or was written before, stands as 99 at the last place.
 fn note(cycles: &mut [u16; 8], cards: &[u16], card: u16, p: Position, made: Cycle) {

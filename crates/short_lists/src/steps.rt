@@ -5,9 +5,9 @@ use crate::bench::Bench;
 use crate::lists;
 use crate::plans;
 use crate::report;
+use counting::Position;
 use dock::Dock;
 use dock::Step;
-use counting::Position;
 
 // The two docks after the same steps, and these steps.
 struct Both {

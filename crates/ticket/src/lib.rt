@@ -8,9 +8,9 @@ ghost use Rattle.ticket.specs.Ticket.{refused, parse, ticketOf, numbersI
 mod lines;
 mod tally;
 
+use counting::Position;
 use header::Answer;
 use header::Header;
-use counting::Position;
 
 // A ticket that was read. The card of frame i stands at place i; places past the last frame are 0, and beside a refusal all are.
 pub struct Ticket {

@@ -4,8 +4,8 @@ ghost use mathlib.Core.Path.{_≡_};
 ghost use Rattle.ticket.specs.Part.{address};
 ghost use Rattle.ticket.specs.Ticket.{lineOf, linePlace};
 ghost use Rattle.walker.specs.Walk.{opened, hasLine, lineAt, placeAt, nextAt, WalksOn, movedTo, gives, givesFrom, stepped};
-use header::limits;
 use counting::Position;
+use header::limits;
 
 // What a walker carries: the bytes that it goes through, and the position of the line that it gives next.
 pub struct Walker<'a> {
