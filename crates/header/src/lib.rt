@@ -4,7 +4,6 @@ ghost use Rattle.text.specs.Text.{digitValues};
 ghost use Rattle.header.specs.Heading.{withinLimits, heading};
 ghost use Rattle.header.specs.Numbers.{numbersOf};
 
-mod fields;
 pub mod limits;
 
 // What stands in the header.
@@ -55,13 +54,13 @@ fn read_heading(value: &[u8; 256], t: &[u8]) -> Answer
     requires { ⌜ now value ≡ digitValues ⌝ }
     ensures { λ r. ⌜ r ≡ heading (now (t .entry)) ⌝ }
 {
-    if fields::is_line(value, t, 0, 14) {
+    if text::read::is_line(value, t, 0, 14) {
         within_limits(Header {
-            edition: fields::number(value, t, 0, 2) as u8,
-            mode: fields::number(value, t, 2, 2) as u8,
-            cards: fields::number(value, t, 4, 2) as u8,
-            pool: fields::number(value, t, 6, 4),
-            frames: fields::number(value, t, 10, 4),
+            edition: text::read::number(value, t, 0, 2) as u8,
+            mode: text::read::number(value, t, 2, 2) as u8,
+            cards: text::read::number(value, t, 4, 2) as u8,
+            pool: text::read::number(value, t, 6, 4) as u16,
+            frames: text::read::number(value, t, 10, 4) as u16,
         })
     } else {
         Answer::Refused(1)

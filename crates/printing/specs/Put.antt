@@ -4,16 +4,10 @@ use Prim.Native.Nat.{ℕ, _≤_}
 use mathlib.Core.Path.{_≡_}
 use mathlib.Core.List.{List}
 use lib.ListN.{length, take}
-use Rattle.counting.specs.Count.{tabulate}
-use Rattle.text.specs.Hex.{digitOf}
 use Rattle.header.specs.declared.Header.{Header}
 use Rattle.ticket.specs.Ticket.{accepted, parse}
 use Rattle.planner.specs.Plan.{planFor}
 use Rattle.printing.specs.Printed.{bytesIn, bufferAfter}
-
--- the digits of all values below 16
-unfoldable pub digitTexts : List ℕ
-digitTexts = tabulate 16 digitOf
 
 -- a ticket that is accepted, with its T and its plan at the front of a list
 pub record Made (ticket : List ℕ) (T : ℕ) (plan : List ℕ) : Type 0 where

@@ -5,7 +5,6 @@ ghost use Rattle.counting.specs.Count.{written};
 ghost use Rattle.printing.specs.Printed.{printed, bytesIn, bufferAfter, Front};
 ghost use Rattle.printing.specs.Sizes.{inputBytes, longestText};
 
-mod digits;
 mod lines;
 
 // The bytes of its input that the program looks at: they settle every ticket (`front-settles`, proofs/Main.antt).

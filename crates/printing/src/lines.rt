@@ -4,10 +4,9 @@ ghost use mathlib.Core.List.{[], _∷_, _++_};
 ghost use Prim.Native.Nat.{_+_, _≤_};
 ghost use lib.ListN.{length};
 ghost use lib.Seq.{sets};
-ghost use Rattle.text.specs.Hex.{hex, endOfLine};
+ghost use Rattle.text.specs.Hex.{digitTexts, hex, endOfLine};
 ghost use Rattle.printing.specs.Printed.{printed, refusalText};
-ghost use Rattle.printing.specs.Put.{digitTexts, Made, Put};
-use crate::digits;
+ghost use Rattle.printing.specs.Put.{Made, Put};
 use counting::Cycle;
 use counting::Position;
 
@@ -18,9 +17,9 @@ pub(crate) fn refusal(number: u8, out: &mut [u8]) -> usize
     if out.len() < 5 {
         return 0;
     }
-    let digit = digits::digit_texts();
-    digits::put2(&digit, out, 0, 255);
-    digits::put2(&digit, out, 2, number);
+    let digit = text::write::digit_texts();
+    text::write::put2(&digit, out, 0, 255);
+    text::write::put2(&digit, out, 2, number);
     out[4] = text::END;
     5
 }
@@ -38,10 +37,10 @@ fn frame_line(
     requires { ⌜ (now digit ≡ digitTexts) × (at + 11 ≤ length (now out)) ⌝ }
     ensures { λ r. ⌜ now (out .exit) ≡ sets (now (out .entry)) at (hex 4 (position .0) ++ ((high ∷ low ∷ []) ++ (hex 4 (cycle .0) ++ endOfLine))) ⌝ }
 {
-    digits::put4(digit, out, at, position.0);
+    text::write::put4(digit, out, at, position.0);
     out[at + 4] = high;
     out[at + 5] = low;
-    digits::put4(digit, out, at + 6, cycle.0);
+    text::write::put4(digit, out, at + 6, cycle.0);
     out[at + 10] = text::END;
 }
 
@@ -54,8 +53,8 @@ pub(crate) fn plan(ticket: &[u8], cycles: Cycle, plan: &[u16], out: &mut [u8]) -
     if out.len() < 5 + 11 * n {
         return 0;
     }
-    let digit = digits::digit_texts();
-    digits::put4(&digit, out, 0, cycles.0);
+    let digit = text::write::digit_texts();
+    text::write::put4(&digit, out, 0, cycles.0);
     out[4] = text::END;
     let mut i: usize = 0;
     while i < n {

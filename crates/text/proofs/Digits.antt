@@ -68,8 +68,8 @@ module _ (s : List ℕ) (at : ℕ) where
   number-lt zero e = omega arith
   number-lt (suc n) e = rw pow-suc (omega (arith, number-lt n (fewer-digits n e), last-digit n e))
 
-  -- four digits fit in 16 bits
-  pub number-small : (n : ℕ) → n ≤ 4 → digits s at n ≡ true → number s at n < 65536
+  -- eight digits fit in 32 bits
+  pub number-small : (n : ℕ) → n ≤ 8 → digits s at n ≡ true → number s at n < 4294967296
   number-small n h e = omega (arith, number-lt n e, pow-le-pow-right {n = 16} (omega arith) h)
 
   -- a line: what it takes and what it gives
@@ -104,7 +104,7 @@ module _ (s : List ℕ) (at : ℕ) where
   pub number-on : (n : ℕ) → number s at n * 16 + digit (getD s (at + n) 0) ≡ number s at (n + 1)
   number-on n = rw add-one (number-step n)
 
-  pub number-fits : (n i : ℕ) → n ≤ 4 → i < n → digits s at n ≡ true → number s at i * 16 + digit (getD s (at + i) 0) < 65536
+  pub number-fits : (n i : ℕ) → n ≤ 8 → i < n → digits s at n ≡ true → number s at i * 16 + digit (getD s (at + i) 0) < 4294967296
   number-fits n i h l e =
       let d : digits s at (suc i) ≡ true = all-digits (suc i) (λ j k. digit-at n j e (omega arith)) in
       rw number-step (number-small (suc i) (omega arith) d)

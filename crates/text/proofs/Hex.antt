@@ -71,7 +71,7 @@ length-hex (suc n) x = omega (arith, length-append (hex n (x / 16)) (digitOf (x 
 shift : (a d : ℕ) → d < 16 → ((a * 16 + d) / 16 ≡ a) × ((a * 16 + d) % 16 ≡ d)
 shift a d h = (omega arith, omega arith)
 
-hex-step : (n a d : ℕ) → d < 16 → hex (suc n) (a * 16 + d) ≡ hex n a ++ (digitOf d ∷ [])
+pub hex-step : (n a d : ℕ) → d < 16 → hex (suc n) (a * 16 + d) ≡ hex n a ++ (digitOf d ∷ [])
 unfolding hex
 hex-step n a d h = rw (shift a d h .0, shift a d h .1)
 

@@ -1,3 +1,4 @@
+pub mod Puts
 pub mod Hex
 pub mod Again
 pub mod Lines

@@ -1,7 +1,10 @@
-// Digits: the text that tickets are made of.
+// Digits: the text that tickets and printed plans are made of, read and written.
 ghost use mathlib.Core.Path.{_≡_};
 ghost use lib.ListN.{getD};
 ghost use Rattle.text.specs.Text.{digit, digitValues};
+
+pub mod read;
+pub mod write;
 
 // The byte that ends a line.
 pub const END: u8 = 10;

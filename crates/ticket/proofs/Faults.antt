@@ -2,7 +2,7 @@
 -- Assumes nothing.
 use Prim.Native.Nat.{ℕ, zero, suc, _+_, _*_, _/_, _≤_, _<_, min}
 use mathlib.Core.Path.{_≡_, refl, sym, _∙_}
-use mathlib.Core.Bool.{true, false, cond}
+use mathlib.Core.Bool.{Bool, true, false, cond}
 use mathlib.Core.List.{List, _++_}
 use native.Mathlib.Omega.{arith}
 use native.Mathlib.Numerals.{add-one}
@@ -14,7 +14,7 @@ use borrow.Author.Tests.{lt-ltb, le-ltb, ltb-true, eq-eqb, ne-eqb}
 use Rattle.counting.specs.Count.{tabulate}
 use Rattle.counting.proofs.Bits.{by-cases}
 use Rattle.text.specs.Text.{endByte, digit, digits, number, isLine}
-use Rattle.text.proofs.Digits.{digit-below, line-long, line-end, is-line, not-digits, no-digits}
+use Rattle.text.proofs.Digits.{digit-below, line-long, line-end, is-line}
 use Rattle.ticket.specs.Ticket.{lineBytes, lineDigits, cardAt, lineFault, linesFault, partFault}
 use Rattle.ticket.specs.Lines.{ReadTo}
 
@@ -28,27 +28,10 @@ module _ (s : List ℕ) (at : ℕ) where
   unfolding number
   two-digit-number = rw add-zero (omega arith)
 
-  pub high-not : 16 ≤ digit (getD s at 0) → isLine s at lineDigits ≡ false
-  high-not h = no-digits s at lineDigits (not-digits s at lineDigits 0 (omega arith) (rw add-zero h))
-
-  pub low-not : 16 ≤ digit (getD s (at + 1) 0) → isLine s at lineDigits ≡ false
-  low-not h = no-digits s at lineDigits (not-digits s at lineDigits 1 (omega arith) h)
-
-  -- the refusal of a line that does not pass
-  pub no-line : isLine s at lineDigits ≡ false → _≡_ {A = ℕ} 7 (cond (isLine s at lineDigits) 8 7)
-  no-line e = rw e refl
-
-  pub a-line : isLine s at lineDigits ≡ true → _≡_ {A = ℕ} 8 (cond (isLine s at lineDigits) 8 7)
-  a-line e = rw e refl
-
   pub is-a-line :
       at + lineDigits < length s → digit (getD s at 0) < 16 → digit (getD s (at + 1) 0) < 16 → getD s (at + lineDigits) 0 ≡ endByte
       → isLine s at lineDigits ≡ true
   is-a-line l h k e = rw (is-line s at lineDigits l (two-digits h k), eq-eqb _ _ e)
-
-  pub no-end : at + lineDigits < length s → digit (getD s at 0) < 16 → digit (getD s (at + 1) 0) < 16
-      → (getD s (at + lineDigits) 0 ≡ endByte → ⊥) → isLine s at lineDigits ≡ false
-  no-end l h k e = rw (is-line s at lineDigits l (two-digits h k), ne-eqb _ _ e)
 
 module _ (s : List ℕ) (cards : ℕ) where
   module _ (i : ℕ) where
@@ -144,6 +127,10 @@ module _ (s : List ℕ) (cards i at v : ℕ) (a : at ≡ lineBytes * i) (e : v �
     pub passes : linesFault s cards i ≡ 0 → linesFault s cards (i + 1) ≡ 0
     passes z = rw add-one (next-line s cards i z ∙ passes-line)
 
+-- the refusal of a line that does not pass, by whether it is a line
+abbrev pub notPassing : Bool → ℕ
+notPassing b = cond b 8 7
+
 -- the lines of a whole part: of n lines those that the text has whole were read, up to the first that does not pass
 module _ (s : List ℕ) (cards n lines : ℕ) (before after : List ℕ) (r : ℕ) (e : lines ≡ min (length s / lineBytes) n) (q : ReadTo s cards lines before r after) where
   -- fewer than n pass: the next line does not, also where the text ends within it
@@ -155,11 +142,11 @@ module _ (s : List ℕ) (cards n lines : ℕ) (before after : List ℕ) (r : ℕ
       ]
 
   pub refused-next :
-      (k : ℕ) → r < n → k ≡ cond (isLine s (lineBytes * r) lineDigits) 8 7 → (k ≡ partFault s cards n) × (k ≡ 0 → ⊥)
-  refused-next k l f =
-      let g : lineFault s cards r ≡ k = fault-of s cards r (not-next l) ∙ sym f in
-      let h : k ≡ 0 → ⊥ = λ z. not-next l (g ∙ z) in
-      (sym (refuses s cards n r k l (q .pass) g h), h)
+      (b : Bool) → isLine s (lineBytes * r) lineDigits ≡ b → r < n → (notPassing b ≡ partFault s cards n) × (notPassing b ≡ 0 → ⊥)
+  refused-next b f l =
+      let g : lineFault s cards r ≡ notPassing b = rw f at (fault-of s cards r (not-next l)) in
+      let h : notPassing b ≡ 0 → ⊥ = λ z. not-next l (g ∙ z) in
+      (sym (refuses s cards n r (notPassing b) l (q .pass) g h), h)
 
   -- all n pass
   pub all-pass : n ≤ r → (linesFault s cards n ≡ 0) × (after ≡ tabulate n (cardAt s) ++ drop n before)

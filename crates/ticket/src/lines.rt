@@ -44,26 +44,6 @@ fn read_passing(value: &[u8; 256], s: &[u8], cards: u8, lines: usize, card: &mut
     i
 }
 
-// The refusal of a line that does not pass: 7 where it is not 2 digits and an end byte, otherwise 8.
-fn line_fault(value: &[u8; 256], s: &[u8], at: usize) -> u8
-    requires { ⌜ (now value ≡ digitValues) × (at ≤ lineBytes * maxFrames) ⌝ }
-    ensures { λ r. ⌜ r ≡ cond (isLine (now (s .entry)) at lineDigits) 8 7 ⌝ }
-{
-    if s.len() < at + 3 {
-        return 7;
-    }
-    if 16 <= text::digit(value, s[at]) {
-        return 7;
-    }
-    if 16 <= text::digit(value, s[at + 1]) {
-        return 7;
-    }
-    if s[at + 2] != text::END {
-        return 7;
-    }
-    8
-}
-
 fn fewer(a: usize, b: usize) -> usize
     ensures { λ r. ⌜ r ≡ min a b ⌝ }
 {
@@ -80,7 +60,7 @@ pub(crate) fn read_lines(value: &[u8; 256], s: &[u8], cards: u8, frames: u16, ca
     let whole = s.len() / 3;
     let passing = read_passing(value, s, cards, fewer(whole, n), card);
     if passing < n {
-        return line_fault(value, s, 3 * passing);
+        return if text::read::is_line(value, s, 3 * passing, 2) { 8 } else { 7 };
     }
     if 3 * n < s.len() {
         return 9;

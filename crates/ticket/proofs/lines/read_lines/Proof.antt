@@ -1,6 +1,6 @@
 -- `ticket::lines::read_lines` meets its contract.
 -- Assumes nothing.
-use mathlib.Core.Path.{sym}
+use mathlib.Core.Path.{sym, _∙_}
 use native.Mathlib.Omega.{arith}
 use Rattle.ticket.proofs.Faults.{part-9, part-0, refused-next, all-pass}
 use borrow.Author.Needs.{needs}
@@ -13,44 +13,60 @@ fewer-requires c κs = search needs
 read-passing-requires : tie.Need-read-passing-requires
 read-passing-requires c κs = search needs
 
-mul-line-fault : tie.Need-mul-line-fault
-mul-line-fault c = search needs
+mul-is-line : tie.Need-mul-is-line
+mul-is-line c = search needs
 
-line-fault-requires : tie.Need-line-fault-requires
-line-fault-requires c κs = search needs
+is-line-requires : tie.Need-is-line-requires
+is-line-requires c κs = search needs
 
 same-length : tie.Need-same-length
 same-length c = search needs
 
 returns : tie.Need-returns
 returns c =
-    let a = c .before .before .before .before .before .before .before .before .before .args in
-    let p = c .before .before .before .before .read-passing in
-    let w = refused-next _ (a .cards) (a .frames) _ _ _ _ (c .before .before .before .before .before .before .fewer .ensures) (p .ensures) _ (omega arith) (c .line-fault .ensures) in
-    (w .0, λ z. absurd (w .1 z))
-
-mul-if2 : tie.Need-mul-if2
-mul-if2 c = search needs
+    let passed = c .before .before .before .before .before in
+    let start = passed .before .before .before .before .before in
+    let whole = passed .before .before .fewer .ensures in
+    let line = sym (c .before .is-line .ensures (start .pre .0)) ∙ c .if2 .taken in
+    let refused = refused-next _ (start .args .cards) (start .args .frames) _ _ _ _ whole (passed .read-passing .ensures) _ line (omega arith) in
+    (refused .0, λ z. absurd (refused .1 z))
 
 same-length-2 : tie.Need-same-length-2
 same-length-2 c = search needs
 
 returns-2 : tie.Need-returns-2
 returns-2 c =
-    let a = c .before .before .before .before .before .before .before .before .before .args in
-    let p = c .before .before .before .before .read-passing in
-    let w = all-pass _ (a .cards) (a .frames) _ _ _ _ (c .before .before .before .before .before .before .fewer .ensures) (p .ensures) (omega arith) in
-    (sym (part-9 _ _ _ (w .0) (omega arith)), λ z. absurd (omega arith))
+    let passed = c .before .before .before .before .before in
+    let start = passed .before .before .before .before .before in
+    let whole = passed .before .before .fewer .ensures in
+    let line = sym (c .before .is-line .ensures (start .pre .0)) ∙ c .if2 .left in
+    let refused = refused-next _ (start .args .cards) (start .args .frames) _ _ _ _ whole (passed .read-passing .ensures) _ line (omega arith) in
+    (refused .0, λ z. absurd (refused .1 z))
+
+mul-if3 : tie.Need-mul-if3
+mul-if3 c = search needs
 
 same-length-3 : tie.Need-same-length-3
 same-length-3 c = search needs
 
 returns-3 : tie.Need-returns-3
 returns-3 c =
-    let a = c .before .before .before .before .before .before .before .before .before .args in
-    let p = c .before .before .before .before .read-passing in
-    let w = all-pass _ (a .cards) (a .frames) _ _ _ _ (c .before .before .before .before .before .before .fewer .ensures) (p .ensures) (omega arith) in
-    (sym (part-0 _ _ _ (w .0) (omega arith)), λ z. w .1)
+    let passed = c .before .before .before .before in
+    let args = passed .before .before .before .before .before .args in
+    let whole = passed .before .before .fewer .ensures in
+    let all = all-pass _ (args .cards) (args .frames) _ _ _ _ whole (passed .read-passing .ensures) (omega arith) in
+    (sym (part-9 _ _ _ (all .0) (omega arith)), λ z. absurd (omega arith))
+
+same-length-4 : tie.Need-same-length-4
+same-length-4 c = search needs
+
+returns-4 : tie.Need-returns-4
+returns-4 c =
+    let passed = c .before .before .before .before in
+    let args = passed .before .before .before .before .before .args in
+    let whole = passed .before .before .fewer .ensures in
+    let all = all-pass _ (args .cards) (args .frames) _ _ _ _ whole (passed .read-passing .ensures) (omega arith) in
+    (sym (part-0 _ _ _ (all .0) (omega arith)), λ z. all .1)
 
 pub read-lines-spec : {M : Type 1} → statement M
 read-lines-spec =
@@ -58,12 +74,14 @@ read-lines-spec =
     (tie.spec
     fewer-requires
     read-passing-requires
-    mul-line-fault
-    line-fault-requires
+    mul-is-line
+    is-line-requires
     same-length
     returns
-    mul-if2
     same-length-2
     returns-2
+    mul-if3
     same-length-3
-    returns-3)
+    returns-3
+    same-length-4
+    returns-4)

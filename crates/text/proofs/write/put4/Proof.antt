@@ -1,9 +1,9 @@
--- `printing::digits::put4` meets its contract.
+-- `text::write::put4` meets its contract.
 -- Assumes nothing.
-use Rattle.printing.proofs.Puts.{put-4}
+use Rattle.text.proofs.Puts.{put-both}
 use borrow.Author.Needs.{needs}
-use Rattle.printing.proofs.digits.put4.Statement.{statement}
-use Rattle.printing.proofs.digits.put4.Tie as tie
+use Rattle.text.proofs.write.put4.Statement.{statement}
+use Rattle.text.proofs.write.put4.Tie as tie
 
 cast-put2 : tie.Need-cast-put2
 cast-put2 c = search needs
@@ -24,7 +24,10 @@ same-length : tie.Need-same-length
 same-length c = search needs
 
 returns : tie.Need-returns
-returns c = put-4 _ _ _ _ _ (c .before .before .before .before .before .before .put2 .ensures) (c .before .before .put22 .ensures)
+returns c =
+    let high = c .before .before .before .before .before .before .put2 .ensures in
+    let low = c .before .before .put22 .ensures in
+    put-both 2 2 _ _ _ _ _ high low
 
 pub put4-spec : {M : Type 1} → statement M
 put4-spec =

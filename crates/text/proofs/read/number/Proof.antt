@@ -1,17 +1,14 @@
--- `header::fields::number` meets its contract.
+-- `text::read::number` meets its contract.
 -- Assumes nothing.
 use Rattle.text.specs.Text.{number}
 use Rattle.text.proofs.Digits.{number-on, number-fits, number-lt}
 use denote.Ref.{now}
 use Prim.Native.Nat.{_≤_, _-_}
 use mathlib.Core.Path.{_≡_, refl}
 use native.Mathlib.Omega.{arith}
 use borrow.Author.Needs.{needs}
-use Rattle.header.proofs.fields.number.Statement.{statement}
-use Rattle.header.proofs.fields.number.Tie as tie
-use Rattle.header.proofs.fields.number.Reads as reads
-use Rattle.header.proofs.fields.number.Lts as lts
-use Rattle.text.proofs.digit.Reads as digit-reads
+use Rattle.text.proofs.read.number.Statement.{statement}
+use Rattle.text.proofs.read.number.Tie as tie
 
 abbrev Inv-loop : tie.InvT-loop
 Inv-loop value s at n sum₀ i₀ sum i = (i ≤ n) × (sum ≡ number s at i)
@@ -35,7 +32,7 @@ digit-requires c κs = search needs
 mul-sum : tie.Need-mul-sum Inv-loop μ-loop
 mul-sum c =
     let l = c .before .before .before .loop in
-    let fits = number-fits _ _ _ (l .i) (omega arith) (omega arith) (c .before .before .before .before .before .pre .4) in
+    let fits = number-fits _ _ _ (l .i) (omega arith) (omega arith) (c .before .before .before .before .before .pre .3) in
     omega arith
 
 cast-sum : tie.Need-cast-sum Inv-loop μ-loop
@@ -45,7 +42,7 @@ add-sum : tie.Need-add-sum Inv-loop μ-loop
 add-sum c =
     let l = c .before .before .before .loop in
     let d = c .digit .ensures .1 (c .before .before .before .before .before .pre .0) in
-    let fits = number-fits _ _ _ (l .i) (omega arith) (omega arith) (c .before .before .before .before .before .pre .4) in
+    let fits = number-fits _ _ _ (l .i) (omega arith) (omega arith) (c .before .before .before .before .before .pre .3) in
     omega (arith, d)
 
 add-i : tie.Need-add-i Inv-loop μ-loop
@@ -66,7 +63,7 @@ returns c =
     let l = c .before .loop in
     let e : l .i ≡ c .before .before .before .args .n = omega arith in
     let v = rw e at (l .inv .1) in
-    (v, rw v (number-lt _ _ _ (c .before .before .before .pre .4)))
+    (v, rw v (number-lt _ _ _ (c .before .before .before .pre .3)))
 
 pub number-spec : {M : Type 1} → statement M
 number-spec =
