@@ -1,7 +1,7 @@
 -- What the parts of `check` found, as the answer to the ticket and the plan.
 -- Assumes nothing.
 use Prim.Native.Nat.{ℕ}
-use mathlib.Core.Path.{_≡_, sym, _∙_}
+use mathlib.Core.Path.{_≡_, refl, sym, _∙_}
 use mathlib.Core.Logic.{_≢_}
 use mathlib.Core.List.{List}
 use native.Mathlib.Omega.{arith}
@@ -10,11 +10,8 @@ use lib.ListN.{length}
 use borrow.Author.Tests.{eq-eqb, ne-eqb}
 use Rattle.header.specs.Limits.{modeSave, modeSaveAndKeep}
 use Rattle.header.specs.declared.Header.{Header}
-use Rattle.header.specs.declared.Answer.the-variants.{Refused as RefusedTicket}
-use Rattle.ticket.specs.Ticket.{accepted, parse, ticketOf}
+use Rattle.ticket.specs.Ticket.{accepted, refused}
 use Rattle.ticket.specs.Grounds.{Fits}
-use Rattle.ticket.specs.declared.Ticket.{Ticket}
-use Rattle.ticket.proofs.Answers.{was-refused}
 use Rattle.checker.specs.Check.{answerOf, verdictOn, checkOf}
 use Rattle.checker.specs.Parts.{Checking}
 use Rattle.checker.specs.declared.Verdict.{Verdict}
@@ -46,8 +43,7 @@ module _ (h : Header) (cards cycles : List ℕ) where
       unfolding checkOf
       checked r e = rw (ne-eqb (h .mode) modeSaveAndKeep n, eq-eqb (length cycles) (length cards) (l ∙ sym (f .frames))) e
 
--- the ticket's reader has refused
-pub ticket-refused :
-    (t : List ℕ) (x : Ticket) → x ≡ ticketOf (parse t) → (k : ℕ) (cycles : List ℕ) → x .answer ≡ RefusedTicket k → Refused k ≡ checkOf (parse t) cycles
+-- a ticket that is refused
+pub ticket-refused : (k : ℕ) (cycles : List ℕ) → Refused k ≡ checkOf (refused k) cycles
 unfolding checkOf
-ticket-refused t x e k cycles q = rw (was-refused t x e k q)
+ticket-refused k cycles = refl

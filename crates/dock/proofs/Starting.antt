@@ -8,11 +8,8 @@ use native.Mathlib.Omega.{arith}
 use lib.ListN.{length, drop, length-append, length-replicate, getD-replicate, List·getD-append}
 use borrow.Author.Tests.{lt-ltb, le-ltb}
 use Rattle.header.specs.declared.Header.{Header}
-use Rattle.header.specs.declared.Answer.the-variants.{Refused}
-use Rattle.ticket.specs.Ticket.{Parsed, accepted, parse, ticketOf}
+use Rattle.ticket.specs.Ticket.{Parsed, accepted, refused, parse}
 use Rattle.ticket.specs.Grounds.{Fits}
-use Rattle.ticket.specs.declared.Ticket.{Ticket}
-use Rattle.ticket.proofs.Answers.{was-refused}
 use Rattle.ticket.proofs.Accepted.{fits}
 use Rattle.schedule.specs.Dock.{emptyDock}
 use Rattle.counting.proofs.Sums.{sum-zero}
@@ -42,12 +39,10 @@ module _ (h : Header) (cards before : List ℕ) (f : Fits h cards) where
       let g : length cards ≤ length before = omega (arith, f .frames) in
       (rw (e, le-ltb (length before) (length cards) g, f .frames), rw (le-ltb (length before) (length cards) g) p)
 
--- the ticket's reader has answered
-module _ (t : List ℕ) (x : Ticket) (e : x ≡ ticketOf (parse t)) where
-  pub ticket-refused : (k : ℕ) → x .answer ≡ Refused k → (r : Driven) → r ≡ record { refusal = k; dock = newDock 0 0 } → (before : List ℕ)
-      → Started (parse t) before r before
-  unfolding startOf memoryStarted
-  ticket-refused k q r z before = rw (was-refused t x e k q) (z, refl)
+-- a ticket that is refused
+pub ticket-refused : (k : ℕ) (r : Driven) → r ≡ record { refusal = k; dock = newDock 0 0 } → (before : List ℕ) → Started (refused k) before r before
+unfolding startOf memoryStarted
+ticket-refused k r z before = (z, refl)
 
 -- the cards at the front of memory, none held, show the empty dock of the model
 pub empty-shows : (h : Header) (cards rest : List ℕ) → Fits h cards → ShowsDock (h .pool) cards emptyDock (newDock (h .pool) (length cards)) (cards ++ rest)

@@ -13,11 +13,8 @@ use Rattle.schedule.specs.Dock.{emptyDock, run}
 use Rattle.schedule.specs.Drive.{complete, unfinished, outcome, peak, stepsOf, stepsTo}
 use Rattle.counting.specs.declared.Cycle.{Cycle}
 use Rattle.header.specs.declared.Header.{Header}
-use Rattle.header.specs.declared.Answer.the-variants.{Refused as RefusedTicket}
-use Rattle.ticket.specs.Ticket.{accepted, parse, ticketOf}
+use Rattle.ticket.specs.Ticket.{accepted, refused, parse}
 use Rattle.ticket.specs.Grounds.{Fits}
-use Rattle.ticket.specs.declared.Ticket.{Ticket}
-use Rattle.ticket.proofs.Answers.{was-refused}
 use Rattle.plan_run.specs.declared.Run.{Run}
 use Rattle.plan_run.specs.declared.Outcome.{Outcome}
 use Rattle.plan_run.specs.declared.Outcome.the-variants.{Complete}
@@ -104,8 +101,7 @@ pub contract : (t cycles : List ℕ) (r : Answer) → r ≡ ranOf (parse t) cycl
     → (r ≡ ranOf (parse t) cycles) × (numbersOf r ≡ numbersOf (ranOf (parse t) cycles))
 contract t cycles r e = (e, ap numbersOf e)
 
--- the ticket's reader has answered
-module _ (t : List ℕ) (x : Ticket) (e : x ≡ ticketOf (parse t)) where
-  pub ticket-refused : (k : ℕ) (cycles : List ℕ) → x .answer ≡ RefusedTicket k → Refused k ≡ ranOf (parse t) cycles
-  unfolding ranOf
-  ticket-refused k cycles q = rw (was-refused t x e k q)
+-- a ticket that is refused
+pub ticket-refused : (k : ℕ) (cycles : List ℕ) → Refused k ≡ ranOf (refused k) cycles
+unfolding ranOf
+ticket-refused k cycles = refl

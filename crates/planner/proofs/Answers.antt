@@ -7,11 +7,8 @@ use native.Mathlib.Omega.{arith}
 use lib.ListN.{length}
 use borrow.Author.Tests.{lt-ltb, le-ltb}
 use Rattle.header.specs.declared.Header.{Header}
-use Rattle.header.specs.declared.Answer.the-variants.{Refused as RefusedTicket}
-use Rattle.ticket.specs.Ticket.{accepted, parse, ticketOf}
+use Rattle.ticket.specs.Ticket.{accepted, refused}
 use Rattle.ticket.specs.Grounds.{Fits}
-use Rattle.ticket.specs.declared.Ticket.{Ticket}
-use Rattle.ticket.proofs.Answers.{was-refused}
 use Rattle.planner.specs.Plan.{planFor, planOf, bufferAfter, Answered}
 use Rattle.planner.specs.Pass.{Asked, Filled}
 use Rattle.planner.specs.declared.Answer.the-variants.{Planned, Refused}
@@ -45,8 +42,7 @@ module _ (h : Header) (cards before : List ℕ) (f : Fits h cards) where
           buffer = rw (le-ltb (length before) (length cards) g) (p .buffer);
         }
 
--- the ticket's reader has answered
-module _ (t : List ℕ) (x : Ticket) (e : x ≡ ticketOf (parse t)) where
-  pub ticket-refused : (k : ℕ) (before : List ℕ) → x .answer ≡ RefusedTicket k → Answered (parse t) before before (Refused k)
-  unfolding planOf bufferAfter
-  ticket-refused k before q = rw (was-refused t x e k q) (record { answer = refl; buffer = refl })
+-- a ticket that is refused
+pub ticket-refused : (k : ℕ) (before : List ℕ) → Answered (refused k) before before (Refused k)
+unfolding planOf bufferAfter
+ticket-refused k before = record { answer = refl; buffer = refl }

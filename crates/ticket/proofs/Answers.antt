@@ -15,7 +15,7 @@ use Rattle.counting.proofs.Lists.{from-place, drop-replicate, length-tabulate}
 use Rattle.header.specs.Heading.{headerBytes, heading}
 use Rattle.header.specs.Numbers.{numbersOf}
 use Rattle.header.specs.Limits.{maxCards, maxFrames}
-use Rattle.ticket.specs.Grounds.{Fits}
+use Rattle.ticket.specs.Grounds.{Fits, ReadAs}
 use Rattle.ticket.specs.Part.{address}
 use Rattle.ticket.specs.Ticket.{Parsed, accepted, refused, cardAt, partFault, parse, zeros, ticketOf, numbersIn, countsUpTo, countsOf}
 use Rattle.ticket.specs.Ticket.{lineBytes, lineDigits, lineRefusalOf, lineStart, lineIn, lineOf, linePlace}
@@ -49,14 +49,6 @@ module _ (t : List ℕ) where
         let q : partFault (drop headerBytes t) (h .cards) (h .frames) ≡ 0 = sym (rw from-place at q) in
         let c : card ≡ tabulate (h .frames) (cardAt (drop headerBytes t)) ++ replicate (maxFrames - h .frames) 0 = rw (from-place, drop-replicate) at c in
         rw (e, q, length-tabulate, ← c)
-
--- the two clauses of `parse`
-same-numbers : (p : Parsed) → numbersOf (ticketOf p .answer) ≡ numbersIn p
-same-numbers (accepted h cards) = refl
-same-numbers (refused k) = refl
-
-pub contract : (t : List ℕ) (r : Ticket) → r ≡ ticketOf (parse t) → (r ≡ ticketOf (parse t)) × (numbersOf (r .answer) ≡ numbersIn (parse t))
-contract t r e = (e, ap (λ (x : Ticket). numbersOf (x .answer)) e ∙ same-numbers (parse t))
 
 -- from the answer of `parse` to what it parsed
 answer-refused : (p : Parsed) (k : ℕ) → ticketOf p .answer ≡ Refused k → p ≡ refused k
@@ -183,8 +175,24 @@ module _ (t : List ℕ) (x : Ticket) (e : x ≡ ticketOf (parse t)) where
         let s = shown h q in
         ap (take (h .frames)) (s .array) ∙ take-at (s .cards) (zeros (maxFrames - length (s .cards))) (h .frames) (s .fitting .frames)
 
-    pub list-fits : Fits h (take (h .frames) (x .card))
+    list-fits : Fits h (take (h .frames) (x .card))
     list-fits = rw front (shown h q .fitting)
 
-    pub list-read : parse t ≡ accepted h (take (h .frames) (x .card))
+    list-read : parse t ≡ accepted h (take (h .frames) (x .card))
     list-read = rw front (shown h q .parsed)
+
+-- the three clauses of `parse`
+same-numbers : (p : Parsed) → numbersOf (ticketOf p .answer) ≡ numbersIn p
+same-numbers (accepted h cards) = refl
+same-numbers (refused k) = refl
+
+pub contract :
+    (t : List ℕ) (r : Ticket) → r ≡ ticketOf (parse t)
+    → (r ≡ ticketOf (parse t)) × ((numbersOf (r .answer) ≡ numbersIn (parse t)) × ReadAs t r)
+contract t r e = (
+  e,
+  (
+    ap (λ (x : Ticket). numbersOf (x .answer)) e ∙ same-numbers (parse t),
+    record { refusal = was-refused t r e; list = list-read t r e; fits = list-fits t r e },
+  ),
+)

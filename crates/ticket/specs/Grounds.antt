@@ -4,14 +4,16 @@
 use Prim.Native.Nat.{ℕ, _*_, _≤_, _<_}
 use mathlib.Core.Path.{_≡_}
 use mathlib.Core.List.{List}
-use lib.ListN.{length, drop}
+use lib.ListN.{length, take, drop}
 use Rattle.counting.specs.Count.{tabulate}
 use Rattle.counting.specs.Frames.{cardOf}
 use Rattle.text.specs.Text.{Line}
 use Rattle.header.specs.Heading.{headerDigits, headerBytes, headerOf}
 use Rattle.header.specs.Limits.{Within, Outside, edition1, modeSaveAndKeep, maxCards, maxPool, maxFrames}
-use Rattle.ticket.specs.Ticket.{Parsed, accepted, refused, lineDigits, lineBytes, cardAt}
+use Rattle.ticket.specs.Ticket.{Parsed, accepted, refused, lineDigits, lineBytes, cardAt, parse}
+use Rattle.ticket.specs.declared.Ticket.{Ticket}
 use Rattle.header.specs.declared.Header.{Header}
+use Rattle.header.specs.declared.Answer.the-variants.{Accepted, Refused}
 
 module _ (t : List ℕ) where
   -- what stands in the header
@@ -93,3 +95,10 @@ pub record Fits (h : Header) (cards : List ℕ) : Type 0 where
   pub frames : length cards ≡ h .frames
   pub few : h .frames ≤ maxFrames
   pub each-card : (i : ℕ) → i < length cards → cardOf cards i < h .cards
+
+-- What a call that takes a ticket goes on with once it is read: the number of its refusal, or its header, with the list of cards beside it
+-- at the front of the array.
+pub record ReadAs (t : List ℕ) (r : Ticket) : Type 0 where
+  pub refusal : (k : ℕ) → r .answer ≡ Refused k → parse t ≡ refused k
+  pub list : (h : Header) → r .answer ≡ Accepted h → parse t ≡ accepted h (take (h .frames) (r .card))
+  pub fits : (h : Header) → r .answer ≡ Accepted h → Fits h (take (h .frames) (r .card))

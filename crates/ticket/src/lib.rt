@@ -2,6 +2,7 @@
 ghost use mathlib.Core.Path.{_≡_};
 ghost use Rattle.header.specs.Heading.{heading};
 ghost use Rattle.header.specs.Numbers.{numbersOf};
+ghost use Rattle.ticket.specs.Grounds.{ReadAs};
 ghost use Rattle.ticket.specs.Part.{address};
 ghost use Rattle.ticket.specs.Ticket.{refused, parse, ticketOf, numbersIn, refusalOf, lineRefusalOf, lineStart, lineOf, linePlace, countsOf};
 
@@ -44,10 +45,11 @@ fn read_part(t: &[u8], h: Header) -> Ticket
     }
 }
 
-// Reads a ticket.
+// Reads a ticket. `reads` is what a call that takes a ticket goes on with: a refusal, or the header and the list beside it.
 pub fn parse(t: &[u8]) -> Ticket
     ensures answer { λ r. ⌜ r ≡ ticketOf (parse (now (t .entry))) ⌝ }
     ensures numbers { λ r. ⌜ numbersOf (r .answer) ≡ numbersIn (parse (now (t .entry))) ⌝ }
+    ensures reads { λ r. ⌜ ReadAs (now (t .entry)) r ⌝ }
 {
     let answer = header::heading(t);
     match answer {

@@ -1,7 +1,6 @@
 -- `checker::check` meets its contract.
 -- Assumes nothing.
 use Rattle.checker.proofs.Accepts.{contract}
-use Rattle.ticket.proofs.Answers.{list-fits, list-read}
 use Rattle.checker.proofs.Answers.{ticket-refused}
 use borrow.Author.Needs.{needs}
 use Rattle.checker.proofs.check.Statement.{statement}
@@ -21,22 +20,19 @@ slice-aggregate-check-list c = search needs
 
 check-list-requires : tie.Need-check-list-requires
 check-list-requires c κs =
-    let parsed = c .before .before .before .before .before .parse in
-    let accepted = c .before .before .answer2 .given in
-    list-fits _ (parsed .result) (parsed .ensures .0) (accepted .0 .0) (accepted .1)
+    let read = c .before .before .before .before .before .parse .ensures .1 .1 in
+    read .fits _ (c .before .before .answer2 .given .1)
 
 returns : tie.Need-returns
 returns c =
-    let parsed = c .before .before .before .before .parse in
-    let refused = c .before .answer .given in
-    contract _ _ _ (ticket-refused _ (parsed .result) (parsed .ensures .0) (refused .0 .0) _ (refused .1))
+    let read = c .before .before .before .before .parse .ensures .1 .1 in
+    contract _ _ _ (rw (read .refusal _ (c .before .answer .given .1)) (ticket-refused _ _))
 
 returns-2 : tie.Need-returns-2
 returns-2 c =
-    let parsed = c .before .before .before .before .before .before .parse in
-    let accepted = c .before .before .before .answer2 .given in
-    let list = list-read _ (parsed .result) (parsed .ensures .0) (accepted .0 .0) (accepted .1) in
-    contract _ _ _ (rw list (c .check-list .ensures))
+    let read = c .before .before .before .before .before .before .parse .ensures .1 .1 in
+    let accepted = c .before .before .before .answer2 .given .1 in
+    contract _ _ _ (rw (read .list _ accepted) (c .check-list .ensures))
 
 pub check-spec : {M : Type 1} → statement M
 check-spec =

@@ -1,7 +1,6 @@
 -- `dock::start` meets its contract.
 -- Assumes nothing.
 use Rattle.dock.proofs.Starting.{ticket-refused}
-use Rattle.ticket.proofs.Answers.{list-fits, list-read}
 use borrow.Author.Needs.{needs}
 use Rattle.dock.proofs.start.Statement.{statement}
 use Rattle.dock.proofs.start.Tie as tie
@@ -23,24 +22,23 @@ slice-aggregate-start-list c = search needs
 
 start-list-requires : tie.Need-start-list-requires
 start-list-requires c κs =
-    let p = c .before .before .before .before .before .before .parse in
-    let a = c .before .before .before .answer2 .given in
-    list-fits _ (p .result) (p .ensures .0) (a .0 .0) (a .1)
+    let read = c .before .before .before .before .before .before .parse .ensures .1 .1 in
+    read .fits _ (c .before .before .before .answer2 .given .1)
 
 returns : tie.Need-returns
 returns c =
-    let p = c .before .before .before .before .before .parse in
-    let a = c .before .before .answer .given in
-    ticket-refused _ (p .result) (p .ensures .0) (a .0 .0) (a .1) _ (c .refused .ensures) _
+    let read = c .before .before .before .before .before .parse .ensures .1 .1 in
+    rw (read .refusal _ (c .before .before .answer .given .1)) (ticket-refused _ _ (c .refused .ensures) _)
 
 same-length : tie.Need-same-length
 same-length c = search needs
 
 returns-2 : tie.Need-returns-2
 returns-2 c =
-    let p = c .before .before .before .before .before .before .before .before .before .parse in
-    let a = c .before .before .before .before .before .before .answer2 .given in
-    rw (list-read _ (p .result) (p .ensures .0) (a .0 .0) (a .1)) (c .before .before .start-list .ensures)
+    let listed = c .before .before in
+    let read = listed .before .before .before .before .before .before .before .parse .ensures .1 .1 in
+    let accepted = listed .before .before .before .before .answer2 .given .1 in
+    rw (read .list _ accepted) (listed .start-list .ensures)
 
 pub start-spec : {M : Type 1} → statement M
 start-spec =

@@ -1,7 +1,6 @@
 -- `plan_run::run_plan` meets its contract.
 -- Assumes nothing.
 use Rattle.plan_run.proofs.Runs.{ticket-refused, contract}
-use Rattle.ticket.proofs.Answers.{list-fits, list-read}
 use borrow.Author.Needs.{needs}
 use Rattle.plan_run.proofs.run_plan.Statement.{statement}
 use Rattle.plan_run.proofs.run_plan.Tie as tie
@@ -20,21 +19,19 @@ slice-aggregate-run-list c = search needs
 
 run-list-requires : tie.Need-run-list-requires
 run-list-requires c κs =
-    let p = c .before .before .before .before .before .parse in
-    let a = c .before .before .answer2 .given in
-    list-fits _ (p .result) (p .ensures .0) (a .0 .0) (a .1)
+    let read = c .before .before .before .before .before .parse .ensures .1 .1 in
+    read .fits _ (c .before .before .answer2 .given .1)
 
 returns : tie.Need-returns
 returns c =
-    let p = c .before .before .before .before .parse in
-    let a = c .before .answer .given in
-    contract _ _ _ (ticket-refused _ (p .result) (p .ensures .0) (a .0 .0) _ (a .1))
+    let read = c .before .before .before .before .parse .ensures .1 .1 in
+    contract _ _ _ (rw (read .refusal _ (c .before .answer .given .1)) (ticket-refused _ _))
 
 returns-2 : tie.Need-returns-2
 returns-2 c =
-    let p = c .before .before .before .before .before .before .before .parse in
-    let a = c .before .before .before .before .answer2 .given in
-    contract _ _ _ (rw (list-read _ (p .result) (p .ensures .0) (a .0 .0) (a .1)) (c .before .run-list .ensures))
+    let read = c .before .before .before .before .before .before .before .parse .ensures .1 .1 in
+    let accepted = c .before .before .before .before .answer2 .given .1 in
+    contract _ _ _ (rw (read .list _ accepted) (c .before .run-list .ensures))
 
 pub run-plan-spec : {M : Type 1} → statement M
 run-plan-spec =

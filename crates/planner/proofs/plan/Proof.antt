@@ -1,7 +1,6 @@
 -- `planner::plan` meets its contract.
 -- Assumes nothing.
 use Rattle.planner.proofs.Answers.{ticket-refused}
-use Rattle.ticket.proofs.Answers.{list-fits, list-read}
 use Rattle.planner.proofs.Demand.{contract}
 use borrow.Author.Needs.{needs}
 use Rattle.planner.proofs.plan.Statement.{statement}
@@ -21,24 +20,23 @@ slice-aggregate-plan-list c = search needs
 
 plan-list-requires : tie.Need-plan-list-requires
 plan-list-requires c κs =
-    let p = c .before .before .before .before .before .before .parse in
-    let a = c .before .before .before .answer2 .given in
-    list-fits _ (p .result) (p .ensures .0) (a .0 .0) (a .1)
+    let read = c .before .before .before .before .before .before .parse .ensures .1 .1 in
+    read .fits _ (c .before .before .before .answer2 .given .1)
 
 returns : tie.Need-returns
 returns c =
-    let p = c .before .before .before .before .parse in
-    let a = c .before .answer .given in
-    contract _ _ _ _ (ticket-refused _ (p .result) (p .ensures .0) (a .0 .0) _ (a .1))
+    let read = c .before .before .before .before .parse .ensures .1 .1 in
+    contract _ _ _ _ (rw (read .refusal _ (c .before .answer .given .1)) (ticket-refused _ _))
 
 same-length : tie.Need-same-length
 same-length c = search needs
 
 returns-2 : tie.Need-returns-2
 returns-2 c =
-    let p = c .before .before .before .before .before .before .before .before .before .parse in
-    let a = c .before .before .before .before .before .before .answer2 .given in
-    contract _ _ _ _ (rw (list-read _ (p .result) (p .ensures .0) (a .0 .0) (a .1)) (c .before .before .plan-list .ensures))
+    let listed = c .before .before in
+    let read = listed .before .before .before .before .before .before .before .parse .ensures .1 .1 in
+    let accepted = listed .before .before .before .before .answer2 .given .1 in
+    contract _ _ _ _ (rw (read .list _ accepted) (listed .plan-list .ensures))
 
 pub plan-spec : {M : Type 1} → statement M
 plan-spec =
