@@ -14,6 +14,7 @@ use borrow.Author.Tests.{eq-eqb, ne-eqb, lt-ltb, le-ltb}
 use Rattle.counting.specs.Count.{bit, howMany}
 use Rattle.schedule.specs.Schedule.{cycleOf}
 use Rattle.counting.proofs.Sums.{sum-cong, sum-add, sum-zero, howMany-le}
+use Rattle.counting.proofs.Bits.{before-or-that, both-after}
 use Rattle.header.specs.Limits.{maxFrames}
 use Rattle.checker.specs.Parts.{cyclesBefore, places, Zeroed, Low, Tallied, Table}
 
@@ -65,26 +66,6 @@ module _ {cycles table : List ℕ} {i : ℕ} (v : Tallying cycles table i) where
 
   pub tallied : length cycles ≤ i → Tallied cycles table
   tallied l = let e : i ≡ length cycles = omega (arith, v .inside) in record { long = v .long; counts = rw e at (v .counts) }
-
--- a cycle before c is one before the cycle before c, or that one
-before-or-that : (x c : ℕ) → bit (ltb x c) ≡ bit (ltb (suc x) c) + bit (eqb (suc x) c)
-before-or-that x c =
-    elim (ℕ-discrete (suc x) c) [
-      | yes e ↦ rw (eq-eqb (suc x) c e, lt-ltb x c (omega arith), le-ltb (suc x) c (omega arith))
-      | no e ↦
-          rw (ne-eqb (suc x) c e)
-          (elim (decLt x c) [
-            | yes l ↦ rw (lt-ltb x c l, lt-ltb (suc x) c (omega arith))
-            | no l ↦ rw (le-ltb x c (omega arith), le-ltb (suc x) c (omega arith))
-          ])
-    ]
-
-both-after : (x c : ℕ) → bit (ltb (suc x) (suc c)) ≡ bit (ltb x c)
-both-after x c =
-    elim (decLt x c) [
-      | yes l ↦ rw (lt-ltb x c l, lt-ltb (suc x) (suc c) (omega arith))
-      | no l ↦ rw (le-ltb x c (omega arith), le-ltb (suc x) (suc c) (omega arith))
-    ]
 
 -- how many frames have a cycle before the one before c
 abbrev runningSum : List ℕ → ℕ → ℕ

@@ -11,18 +11,12 @@ use lib.ListN.{length}
 use borrow.Author.Tests.{lt-ltb, le-ltb, le-leb, lt-leb}
 use Rattle.counting.specs.Count.{bit, howMany}
 use Rattle.schedule.specs.Schedule.{cycleOf}
-use Rattle.counting.proofs.Sums.{sum-mono, sum-zero, howMany-le}
+use Rattle.counting.proofs.Sums.{sum-mono, sum-zero, howMany-le, counted-one, counted-none}
 use Rattle.checker.specs.Parts.{laterUpTo}
 
 -- what is left of n falls
 pub fewer-left : (n i : ℕ) → i < n → n - (i + 1) < n - i
 fewer-left n i l = omega arith
-
-counted-one : (n : ℕ) (test : ℕ → Bool) → test n ≡ true → howMany n test + 1 ≡ howMany (n + 1) test
-counted-one n test e = rw (add-one n, e) refl
-
-counted-none : (n : ℕ) (test : ℕ → Bool) → test n ≡ false → howMany n test ≡ howMany (n + 1) test
-counted-none n test e = rw (add-one n, e) (omega arith)
 
 -- of the frames below j, those with cycle c or a later one
 pub record Earlier (cycles : List ℕ) (c i j count : ℕ) : Type 0 where

@@ -15,33 +15,9 @@ use Rattle.counting.specs.Count.{bit, howMany, tabulate, largest}
 use Rattle.schedule.specs.Schedule.{cycleOf, oBacklog, iBacklog}
 use Rattle.schedule.specs.Closed.{readBefore}
 use Rattle.counting.proofs.Bits.{and-left, and-right, bit-mono}
-use Rattle.counting.proofs.Sums.{sum-cong, sum-add, sum-one, sum-mono, sum-longer}
+use Rattle.counting.proofs.Sums.{sum-cong, sum-add, sum-one, sum-mono, sum-longer, all-below, front-only}
 use Rattle.counting.proofs.Lists.{getD-tabulate, le-largest, largest-snoc}
 use Rattle.checker.specs.Parts.{cyclesBefore}
-
--- the largest of one value more
-pub most-next : (f : ℕ → ℕ) (i : ℕ) → largest (tabulate (i + 1) f) ≡ max (largest (tabulate i f)) (f i)
-most-next f i = rw (add-one i) (largest-snoc (tabulate i f) (f i))
-
-pub among : (f : ℕ → ℕ) (i j : ℕ) → j < i → f j ≤ largest (tabulate i f)
-among f i j l = omega (arith, le-largest (tabulate i f) j, getD-tabulate i f j 0 l)
-
--- how many of the first n numbers are below h and pass a test
-front-only : (n h : ℕ) (test : ℕ → Bool) → h ≤ n → howMany n (λ j. ltb j h && test j) ≡ howMany h test
-front-only zero h test l = let e : h ≡ 0 = omega arith in rw e
-front-only (suc n) h test l =
-    elim (ℕ-discrete h (suc n)) [
-      | yes e ↦ rw e (sum-cong (suc n) (λ j. bit (ltb j (suc n) && test j)) (λ j. bit (test j)) (λ j k. rw (lt-ltb j (suc n) k)))
-      | no e ↦ rw (le-ltb n h (omega arith)) (omega (arith, front-only n h test (omega arith)))
-    ]
-
-all-below : (n h : ℕ) → h ≤ n → howMany n (λ j. ltb j h) ≡ h
-all-below zero h l = omega arith
-all-below (suc n) h l =
-    elim (ℕ-discrete h (suc n)) [
-      | yes e ↦ rw e (sum-cong (suc n) (λ j. bit (ltb j (suc n))) (λ j. 1) (λ j k. rw (lt-ltb j (suc n) k)) ∙ sum-one (suc n))
-      | no e ↦ rw (le-ltb n h (omega arith)) (omega (arith, all-below n h (omega arith)))
-    ]
 
 module _ (cycles : List ℕ) where
   abbrev cyc : ℕ → ℕ

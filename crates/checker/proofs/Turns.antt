@@ -14,8 +14,10 @@ use Rattle.schedule.specs.Schedule.{cycleOf, oBacklog, iBacklog}
 use Rattle.schedule.specs.Closed.{readBefore}
 use Rattle.header.specs.Limits.{maxFrames}
 use Rattle.counting.proofs.Sums.{sum-cong}
+use Rattle.counting.proofs.Lists.{most-next, among}
+use Rattle.counting.proofs.Bits.{up-to-the-one-before}
 use Rattle.checker.specs.Parts.{laterUpTo, cyclesBefore, Table, Bounds, mostOf}
-use Rattle.checker.proofs.Most.{most-next, among, backlog-covered, before-covered, save-covered, backlog-ahead, before-ahead, save-behind}
+use Rattle.checker.proofs.Most.{backlog-covered, before-covered, save-covered, backlog-ahead, before-ahead, save-behind}
 
 -- a read, after i frames: `ceiling` is one more than their largest cycle, 0 for none
 pub record ReadTurn (cycles : List ℕ) (i ceiling backlog before : ℕ) : Type 0 where
@@ -167,13 +169,6 @@ pub record Counted (cycles : List ℕ) (i most : ℕ) : Type 0 where
 
 pub counted-first : (cycles : List ℕ) → Counted cycles 0 0
 counted-first cycles = record { inside = omega arith; so-far = refl }
-
-up-to-the-one-before : (x c : ℕ) → 1 ≤ c → leb x (c - 1) ≡ ltb x c
-up-to-the-one-before x c l =
-    elim (decLt x c) [
-      | yes h ↦ le-leb x (c - 1) (omega arith) ∙ sym (lt-ltb x c h)
-      | no h ↦ lt-leb x (c - 1) (omega arith) ∙ sym (le-ltb x c (omega arith))
-    ]
 
 module _ {cycles : List ℕ} {i most : ℕ} (v : Counted cycles i most) where
   pub counted-next :

@@ -14,7 +14,7 @@ use Rattle.schedule.specs.Dock.{emptyDock}
 use Rattle.schedule.specs.Drive.{peak, stepsOf}
 use Rattle.schedule.specs.Verdict.{verdictOnRead, verdictOnSave}
 use Rattle.schedule.specs.Closed.{readBefore}
-use Rattle.counting.proofs.Lists.{getD-zeros, le-largest}
+use Rattle.counting.proofs.Lists.{getD-zeros, le-largest, among}
 use Rattle.counting.proofs.Bits.{by-cases}
 use Rattle.schedule.proofs.Peak.{peak-closed}
 use Rattle.schedule.proofs.Exact.{valid-correct, otherwise}
@@ -24,7 +24,6 @@ use Rattle.checker.specs.Parts.{Checking, Roomy, backlogOf, places, Zero
 use Rattle.checker.specs.declared.Verdict.{Verdict}
 use Rattle.checker.specs.declared.Verdict.the-variants.{Valid}
 use Rattle.checker.proofs.Judged.{clear, fault-not-valid, completed-valid, completed-fault, completed-verdict}
-use Rattle.checker.proofs.Most.{among}
 
 pub zeroed : Zeroed (replicate places 0)
 zeroed = record { long = length-replicate {A = ℕ} places 0; zeros = getD-zeros places }

@@ -1,12 +1,12 @@
 -- Laws of tests and of `bit`, the number 1 or 0 that a test counts as.
 -- Assumes nothing.
-use Prim.Native.Nat.{ℕ, suc, _+_, _≤_, _<_, zero-le}
-use mathlib.Core.Path.{_≡_, refl, ap}
+use Prim.Native.Nat.{ℕ, zero, suc, _+_, _≤_, _<_, zero-le, _-_}
+use mathlib.Core.Path.{_≡_, refl, ap, _∙_, sym}
 use mathlib.Core.Bool.{Bool, true, false, not, _&&_, _||_, cond}
 use native.Mathlib.Omega.{arith}
-use native.Mathlib.Decide.{decLe}
-use lib.Dec.{eqb, leb}
-use borrow.Author.Tests.{eq-eqb, le-leb, lt-leb}
+use native.Mathlib.Decide.{decLe, ℕ-discrete, decLt}
+use lib.Dec.{eqb, leb, ltb}
+use borrow.Author.Tests.{eq-eqb, le-leb, lt-leb, lt-ltb, ne-eqb, le-ltb}
 use Rattle.counting.specs.Count.{bit}
 
 -- by the two cases of a test, each with what it says
@@ -81,3 +81,53 @@ bit-up-to true x t =
             | no k ↦ (let g : suc t < x = omega arith in rw (lt-leb x (suc t) g) zero-le)
           ]
     ]
+
+pub eqb-swap : (x y : ℕ) → eqb x y ≡ eqb y x
+eqb-swap x y =
+    elim (ℕ-discrete x y) [
+      | yes e ↦ eq-eqb x y e ∙ sym (eq-eqb y x (sym e))
+      | no e ↦ ne-eqb x y e ∙ sym (ne-eqb y x (λ q. e (sym q)))
+    ]
+
+-- a number is below c if the next one is, or is c
+pub before-or-that : (x c : ℕ) → bit (ltb x c) ≡ bit (ltb (suc x) c) + bit (eqb (suc x) c)
+before-or-that x c =
+    elim (ℕ-discrete (suc x) c) [
+      | yes e ↦ rw (eq-eqb (suc x) c e, lt-ltb x c (omega arith), le-ltb (suc x) c (omega arith))
+      | no e ↦
+          rw (ne-eqb (suc x) c e)
+          (elim (decLt x c) [
+            | yes l ↦ rw (lt-ltb x c l, lt-ltb (suc x) c (omega arith))
+            | no l ↦ rw (le-ltb x c (omega arith), le-ltb (suc x) c (omega arith))
+          ])
+    ]
+
+pub both-after : (x c : ℕ) → bit (ltb (suc x) (suc c)) ≡ bit (ltb x c)
+both-after x c =
+    elim (decLt x c) [
+      | yes l ↦ rw (lt-ltb x c l, lt-ltb (suc x) (suc c) (omega arith))
+      | no l ↦ rw (le-ltb x c (omega arith), le-ltb (suc x) (suc c) (omega arith))
+    ]
+
+pub up-to-the-one-before : (x c : ℕ) → 1 ≤ c → leb x (c - 1) ≡ ltb x c
+up-to-the-one-before x c l =
+    elim (decLt x c) [
+      | yes h ↦ le-leb x (c - 1) (omega arith) ∙ sym (lt-ltb x c h)
+      | no h ↦ lt-leb x (c - 1) (omega arith) ∙ sym (le-ltb x c (omega arith))
+    ]
+
+pub leb-none : (n : ℕ) → leb n 0 ≡ eqb n 0
+leb-none zero = refl
+leb-none (suc n) = lt-leb (suc n) 0 (omega arith) ∙ sym (ne-eqb (suc n) 0 (λ e. omega arith))
+
+-- a cycle x is y or later, or it is up to t, where y is up to t + 1
+pub later-or-done : (x y t : ℕ) → y ≤ suc t → 1 ≤ bit (leb y x) + bit (leb x t)
+later-or-done x y t h =
+    elim (decLe y x) [
+      | yes l ↦ rw (le-leb y x l) (omega arith)
+      | no n ↦ (let g : x ≤ t = omega arith in rw (le-leb x t g) (omega arith))
+    ]
+
+pub or-first : (a b : Bool) → (a || b) ≡ false → a ≡ false
+or-first true b e = e
+or-first false b e = refl

@@ -1,3 +1,6 @@
+pub mod Firsts
+pub mod Turned
+pub mod Snoc
 pub mod Lists
 pub mod Sums
 pub mod Bits

@@ -5,8 +5,9 @@ use mathlib.Core.Path.{_≡_, refl, sym, ap, _∙_}
 use mathlib.Core.Bool.{Bool, true, false, _&&_, and-true, and-false}
 use native.Mathlib.Omega.{arith}
 use native.Mathlib.Decide.{decLe, decLt, ℕ-discrete}
-use lib.Dec.{eqb, ltb}
-use borrow.Author.Tests.{eq-eqb, ne-eqb, eqb-true, le-ltb}
+use native.Mathlib.Numerals.{add-one}
+use lib.Dec.{eqb, ltb, eqb·zero-suc, eqb·suc-suc, eqb·suc-zero}
+use borrow.Author.Tests.{eq-eqb, ne-eqb, eqb-true, le-ltb, lt-ltb}
 use Rattle.counting.specs.Count.{bit, sum, howMany}
 use Rattle.counting.proofs.Bits.{by-cases, bit-le-one}
 
@@ -166,3 +167,71 @@ some-passes (suc n) t h =
 -- one that passes is not among those before it
 pub passes-after : (n i : ℕ) (t : ℕ → Bool) → i < n → t i ≡ true → howMany i t < howMany n t
 passes-after n i t l e = omega (arith, sum-longer (suc i) n (λ j. bit (t j)) l, ap bit e)
+
+-- one number more
+pub counted-one : (n : ℕ) (test : ℕ → Bool) → test n ≡ true → howMany n test + 1 ≡ howMany (n + 1) test
+counted-one n test e = rw (add-one n, e) refl
+
+pub counted-none : (n : ℕ) (test : ℕ → Bool) → test n ≡ false → howMany n test ≡ howMany (n + 1) test
+counted-none n test e = rw (add-one n, e) (omega arith)
+
+-- how many of the first n numbers are below h and pass a test
+pub front-only : (n h : ℕ) (test : ℕ → Bool) → h ≤ n → howMany n (λ j. ltb j h && test j) ≡ howMany h test
+front-only zero h test l = let e : h ≡ 0 = omega arith in rw e
+front-only (suc n) h test l =
+    elim (ℕ-discrete h (suc n)) [
+      | yes e ↦ rw e (sum-cong (suc n) (λ j. bit (ltb j (suc n) && test j)) (λ j. bit (test j)) (λ j k. rw (lt-ltb j (suc n) k)))
+      | no e ↦ rw (le-ltb n h (omega arith)) (omega (arith, front-only n h test (omega arith)))
+    ]
+
+pub all-below : (n h : ℕ) → h ≤ n → howMany n (λ j. ltb j h) ≡ h
+all-below zero h l = omega arith
+all-below (suc n) h l =
+    elim (ℕ-discrete h (suc n)) [
+      | yes e ↦ rw e (sum-cong (suc n) (λ j. bit (ltb j (suc n))) (λ j. 1) (λ j k. rw (lt-ltb j (suc n) k)) ∙ sum-one (suc n))
+      | no e ↦ rw (le-ltb n h (omega arith)) (omega (arith, all-below n h (omega arith)))
+    ]
+
+-- where one test does not pass, fewer than n do
+pub one-missing : (n i : ℕ) (t : ℕ → Bool) → i < n → t i ≡ false → howMany n t < n
+one-missing n i t l e =
+    omega (
+      arith,
+      sum-mono n (λ j. bit (t j) + bit (eqb i j)) (λ j. 1)
+          (λ j k.
+          by-cases (eqb i j)
+          (λ q. let f : t j ≡ false = rw (eqb-true i j q) at e in rw (f, q) (omega arith))
+          (λ q. rw q (omega (arith, bit-le-one (t j))))),
+      sum-add n (λ j. bit (t j)) (λ j. bit (eqb i j)),
+      sum-one n,
+      equal-one n i l,
+    )
+
+-- a test counted at the numbers that equal x: none of them below x, one of them above it
+pub none-at : (n x : ℕ) (t : ℕ → Bool) → n ≤ x → howMany n (λ j. eqb j x && t j) ≡ 0
+none-at zero x t h = refl
+none-at (suc n) x t h = rw (ne-eqb n x (λ e. omega arith)) (omega (arith, none-at n x t (omega arith)))
+
+pub one-at : (n x : ℕ) (t : ℕ → Bool) → x < n → howMany n (λ j. eqb j x && t j) ≡ bit (t x)
+one-at zero x t h = omega arith
+one-at (suc n) x t h =
+    elim (decLt x n) [
+      | yes l ↦ rw (ne-eqb n x (λ e. omega arith)) (omega (arith, one-at n x t l))
+      | no l ↦ (let e : n ≡ x = omega arith in rw (e, eq-eqb x x refl) (omega (arith, none-at x x t (omega arith))))
+    ]
+
+-- a number up to t is 0 or one of 1 to t
+pub zero-or-one-of : (x t : ℕ) → x ≤ t → howMany t (λ c. eqb x (suc c)) + bit (eqb x 0) ≡ 1
+zero-or-one-of zero t h =
+    omega (arith, sum-cong t (λ c. bit (eqb 0 (suc c))) (λ c. 0) (λ c l. ap bit (eqb·zero-suc c)), sum-zero t)
+zero-or-one-of (suc x) t h =
+    omega (
+      arith,
+      sum-cong t (λ c. bit (eqb (suc x) (suc c))) (λ c. bit (eqb x c)) (λ c l. ap bit (eqb·suc-suc x c)),
+      equal-one t x h,
+      ap bit (eqb·suc-zero x),
+    )
+
+-- for the numbers below n, and for n
+pub below-suc : (n : ℕ) (P : ℕ → Type 0) → ((i : ℕ) → i < n → P i) → P n → (i : ℕ) → i < suc n → P i
+below-suc n P f g i l = elim (decLt i n) [ yes k ↦ f i k | no k ↦ (let e : i ≡ n = omega arith in rw e g) ]

@@ -26,13 +26,6 @@ put-count (suc n) i t b h =
       | no e ↦ (let q : n ≡ i → ⊥ = omega arith in rw (ne-eqb n i q) (omega (arith, put-count n i t b (omega arith))))
     ]
 
--- where one test passes, one is counted; where one does not, fewer than n are
-pub some-counted : (n i : ℕ) (t : ℕ → Bool) → i < n → t i ≡ true → 1 ≤ howMany n t
-some-counted n i t l e = omega (arith, sum-term-le n (λ j. bit (t j)) i l, ap bit e)
-
-pub one-missing : (n i : ℕ) (t : ℕ → Bool) → i < n → t i ≡ false → howMany n t < n
-one-missing n i t l e = omega (arith, put-count n i t true l, howMany-le n (put t i true), ap bit e)
-
 -- Those that pass are none below `from`, and all from there to from + k: without these k fewer are counted.
 module _ (n from : ℕ) (t : ℕ → Bool) (none-below : (i : ℕ) → i < n → t i ≡ true → from ≤ i) where
   nothing-left-out : howMany n (λ i. t i && leb from i) ≡ howMany n t

@@ -14,12 +14,12 @@ use Rattle.counting.specs.Frames.{cardOf}
 use Rattle.schedule.specs.Dock.{dropFrame, against, perform, Dock as ModelDock}
 use Rattle.counting.specs.declared.Position.{Position}
 use Rattle.counting.proofs.Bits.{by-cases, and-left}
+use Rattle.counting.proofs.Sums.{passes-after}
 use Rattle.dock.specs.State.{ShowsDock}
 use Rattle.dock.specs.Records.{nowHolding}
 use Rattle.dock.specs.Drive.{isHeld, freesBuffer, againstRules, recordMade, bytesMade}
 use Rattle.dock.specs.declared.Dock.{Dock}
 use Rattle.dock.specs.declared.Step.the-variants.{Drop}
-use Rattle.dock.proofs.Counting.{some-counted}
 use Rattle.dock.proofs.Frames.{in-list, byte-held, put-holds, put-marks, put-ahead}
 
 module _ {m : ℕ} {cards : List ℕ} {d : ModelDock} {dock : Dock} {memory : List ℕ} (s : ShowsDock m cards d dock memory) (p : Position) where
@@ -62,7 +62,7 @@ module _ {m : ℕ} {cards : List ℕ} {d : ModelDock} {dock : Dock} {memory : Li
 
     -- a held frame is counted
     counted : d .held i ≡ true → 1 ≤ dock .holding
-    counted t = omega (arith, s .holds, some-counted (length cards) i (d .held) (in-list s i l) t)
+    counted t = omega (arith, s .holds, passes-after (length cards) i (d .held) (in-list s i l) t)
 
     held : d .held i ≡ true → ShowsDock m cards (perform cards (dropFrame i) d) (nowHolding dock (dock .holding - 1)) (set memory i (b - 128))
     held t =

@@ -9,7 +9,7 @@ use lib.ListN.{getD}
 use borrow.Author.Tests.{leb-false}
 use Rattle.schedule.specs.Dock.{breakOff, against, perform, Dock as ModelDock}
 use Rattle.schedule.specs.Dock as model
-use Rattle.counting.proofs.Bits.{or-neither}
+use Rattle.counting.proofs.Bits.{or-neither, or-first}
 use Rattle.dock.specs.State.{ShowsDock, stepOf}
 use Rattle.dock.specs.Records.{brokenOff}
 use Rattle.dock.specs.Drive.{cardIn, againstRules, recordMade, bytesMade, recordAfter, bytesAfter}
@@ -19,10 +19,6 @@ use Rattle.dock.specs.declared.Step.the-variants.{Read, Drop, End}
 use Rattle.dock.proofs.ReadStep.{read-rule, read-shows}
 use Rattle.dock.proofs.DropStep.{drop-rule, drop-shows}
 use Rattle.dock.proofs.EndStep.{end-rule, end-shows}
-
--- a step within the rules is not against the first of two
-pub not-first : (a b : Bool) → (a || b) ≡ false → a ≡ false
-not-first a b e = or-neither b a (or-comm b a ∙ e)
 
 -- the three cases of a step, of the model and of a record: broken off, against the rules, within them
 by-three : {A B C : Type 0} (P : A → B → C → Type 0) {a₀ a₁ a₂ : A} {b₀ b₁ b₂ : B} {c₀ c₁ : C} (x y : Bool) {x′ y′ : Bool}
@@ -44,9 +40,9 @@ module _ {m : ℕ} {cards : List ℕ} {d : ModelDock} {dock : Dock} {memory : Li
       → ShowsDock m cards (perform cards (stepOf a) d) (recordMade dock memory a) (bytesMade dock memory a)
   made-shows (Read p) unbroken e =
       let busy : Bool = getD (dock .busy) (cardIn (getD memory (p .0) 0)) false in
-      read-shows s p unbroken (leb-false (dock .frames) (p .0) (not-first (leb (dock .frames) (p .0)) busy e))
+      read-shows s p unbroken (leb-false (dock .frames) (p .0) (or-first (leb (dock .frames) (p .0)) busy e))
   made-shows (Drop p) unbroken e =
-      drop-shows s p unbroken (leb-false (dock .frames) (p .0) (not-first (leb (dock .frames) (p .0)) (dock .reading) e))
+      drop-shows s p unbroken (leb-false (dock .frames) (p .0) (or-first (leb (dock .frames) (p .0)) (dock .reading) e))
   made-shows End unbroken e = end-shows s
 
   broken-shows : ShowsDock m cards (breakOff d) (brokenOff dock) memory

@@ -16,7 +16,7 @@ use Rattle.dock.specs.Drive.{cardIn, heldIn, takesBuffer, freesBuffer, h
 use Rattle.dock.specs.declared.Dock.{Dock}
 use Rattle.dock.specs.declared.Step.{Step}
 use Rattle.dock.specs.declared.Step.the-variants.{Read, Drop, End}
-use Rattle.dock.proofs.Following.{not-first}
+use Rattle.counting.proofs.Bits.{or-first}
 use Rattle.dock.proofs.Freeing.{freed-length, freed-before, freed-behind}
 
 module _ (dock : Dock) (memory : List ℕ) where
@@ -41,10 +41,10 @@ module _ (dock : Dock) (memory : List ℕ) where
   made-kept : (a : Step) → againstRules dock memory a ≡ false → Kept (bytesMade dock memory a)
   made-kept (Read p) e =
       let b : ℕ = getD memory (p .0) 0 in
-      one-byte (takesBuffer dock (p .0) b) (p .0) (b + 128) (not-first (leb (dock .frames) (p .0)) (getD (dock .busy) (cardIn b) false) e)
+      one-byte (takesBuffer dock (p .0) b) (p .0) (b + 128) (or-first (leb (dock .frames) (p .0)) (getD (dock .busy) (cardIn b) false) e)
   made-kept (Drop p) e =
       let b : ℕ = getD memory (p .0) 0 in
-      one-byte (freesBuffer dock b) (p .0) (b - 128) (not-first (leb (dock .frames) (p .0)) (dock .reading) e)
+      one-byte (freesBuffer dock b) (p .0) (b - 128) (or-first (leb (dock .frames) (p .0)) (dock .reading) e)
   made-kept End e =
       let after : List ℕ = freed (dock .delivered) (handedOver dock memory) memory in
       let same : length after ≡ length memory = freed-length (dock .delivered) (handedOver dock memory) memory in

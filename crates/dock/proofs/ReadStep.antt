@@ -15,13 +15,13 @@ use Rattle.counting.specs.Frames.{cardOf}
 use Rattle.schedule.specs.Dock.{readFrame, isIn, against, perform, Dock as ModelDock}
 use Rattle.counting.specs.declared.Position.{Position}
 use Rattle.counting.proofs.Bits.{by-cases, and-left, and-right, or-cases}
+use Rattle.counting.proofs.Sums.{one-missing}
 use Rattle.header.specs.Limits.{maxCards}
 use Rattle.dock.specs.State.{ShowsDock}
 use Rattle.dock.specs.Records.{turnUsed}
 use Rattle.dock.specs.Drive.{cardIn, isHeld, takesBuffer, againstRules, recordMade, bytesMade}
 use Rattle.dock.specs.declared.Dock.{Dock}
 use Rattle.dock.specs.declared.Step.the-variants.{Read}
-use Rattle.dock.proofs.Counting.{one-missing}
 use Rattle.dock.proofs.Frames.{in-list, byte-card, byte-held, byte-busy, put-holds, put-marks, put-ahead}
 
 -- what a read that takes a buffer has passed

@@ -5,10 +5,7 @@ use Prim.Native.Nat.{ℕ, suc, _-_, _≤_, _<_, max}
 use mathlib.Core.Path.{_≡_, sym, ap, _∙_}
 use native.Mathlib.Omega.{arith}
 use native.Mathlib.Decide.{decLe, decLt, ℕ-discrete}
-
--- for the numbers below n, and for n
-pub below-suc : (n : ℕ) (P : ℕ → Type 0) → ((i : ℕ) → i < n → P i) → P n → (i : ℕ) → i < suc n → P i
-below-suc n P f g i l = elim (decLt i n) [ yes k ↦ f i k | no k ↦ (let e : i ≡ n = omega arith in rw e g) ]
+use Rattle.counting.proofs.Sums.{below-suc}
 
 -- one of the frames before n has card c and cycle x
 abbrev pub Has : (ℕ → ℕ) → (ℕ → ℕ) → ℕ → ℕ → ℕ → Type 0

@@ -8,19 +8,11 @@ use lib.Dec.{eqb, ltb}
 use borrow.Author.Tests.{eq-eqb, ne-eqb, lt-ltb, le-ltb}
 use Rattle.counting.specs.Count.{bit, howMany}
 use Rattle.counting.proofs.Sums.{sum-cong, sum-add, howMany-le}
+use Rattle.counting.proofs.Bits.{eqb-swap, before-or-that}
 
 -- a frame that is to come is to come after one cycle more, or is due in it
 later-or-due : (t x : ℕ) → bit (ltb t x) ≡ bit (ltb (suc t) x) + bit (eqb x (suc t))
-later-or-due t x =
-    elim (ℕ-discrete x (suc t)) [
-      | yes e ↦ rw (eq-eqb x (suc t) e, lt-ltb t x (omega arith), le-ltb (suc t) x (omega arith))
-      | no e ↦
-          rw (ne-eqb x (suc t) e)
-          (elim (decLe x t) [
-            | yes l ↦ rw (le-ltb t x l, le-ltb (suc t) x (omega arith))
-            | no l ↦ rw (lt-ltb t x (omega arith), lt-ltb (suc t) x (omega arith))
-          ])
-    ]
+later-or-due t x = rw (eqb-swap x (suc t)) (before-or-that t x)
 
 -- w of the first n frames wait, and `due u` have cycle u, for each u below K
 pub record Counts (K n t : ℕ) (a due : ℕ → ℕ) (w : ℕ) : Type 0 where

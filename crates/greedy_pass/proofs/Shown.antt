@@ -15,10 +15,10 @@ use Rattle.counting.specs.Frames.{cardOf}
 use Rattle.schedule.specs.Schedule.{cycleOf}
 use Rattle.schedule.specs.Greedy.{Plan, waits, inPool, enter, isFirst, oneCycle, flush}
 use Rattle.counting.proofs.Bits.{by-test}
-use Rattle.counting.proofs.Sums.{sum-cong, sum-zero, sum-term-le}
+use Rattle.counting.proofs.Sums.{sum-cong, sum-zero, sum-term-le, below-suc}
 use Rattle.counting.proofs.Lists.{length-tabulate, getD-tabulate}
 use Rattle.greedy_pass.specs.AsOf.{asOf}
-use Rattle.greedy_pass.proofs.Assigned.{below-suc, Has, Assigned, assigned-cycle, assigned-enter}
+use Rattle.greedy_pass.proofs.Assigned.{Has, Assigned, assigned-cycle, assigned-enter}
 
 -- a frame waits where its cycle is to come
 as-of-waits : (t x : ℕ) → 1 ≤ x → eqb (asOf t x) 0 ≡ ltb t x

@@ -15,12 +15,7 @@ use Rattle.counting.specs.Frames.{cardOf}
 use Rattle.counting.proofs.Bits.{by-cases, bit-le-one}
 use Rattle.counting.proofs.Sums.{howMany-le}
 use Rattle.greedy_pool.specs.Pool.{none, isOldest, left, writes}
-use Rattle.greedy_pool.proofs.Snoc.{bound-snoc}
-
--- the frames left are counted: those that are not their card's first
-kept-length : (b : Bool) (x : ℕ) → length (cond b [] (x ∷ [])) ≡ bit (not b)
-kept-length true x = refl
-kept-length false x = refl
+use Rattle.counting.proofs.Snoc.{bound-snoc, kept-length, bound-kept}
 
 left-length : (c v : List ℕ) (n : ℕ) → length (left c v n) ≡ howMany n (λ i. not (isOldest c i))
 left-length c v zero = refl
@@ -50,12 +45,6 @@ left-shorter c v (suc (suc n)) h =
       left-length c v (suc (suc n)),
       bit-le-one (not (isOldest c (suc n))),
     )
-
--- a bound on the value at each place is one on each value left
-bound-kept : (l : List ℕ) (z : Bool) (x b : ℕ) → ((i : ℕ) → i < length l → getD l i 0 < b) → x < b → (i : ℕ) → i < length (l ++ cond z [] (x ∷ []))
-    → getD (l ++ cond z [] (x ∷ [])) i 0 < b
-bound-kept l true x b h g i k = rw (append-nil l) (h i (rw (append-nil l) at k))
-bound-kept l false x b h g i k = bound-snoc l x b h g i k
 
 pub left-all : (c v : List ℕ) (n b : ℕ) → ((i : ℕ) → i < n → getD v i 0 < b) → (i : ℕ) → i < length (left c v n) → getD (left c v n) i 0 < b
 left-all c v zero b h i l = omega arith

@@ -7,5 +7,4 @@ pub mod Left
 pub mod Times
 pub mod Next
 pub mod Places
-pub mod Snoc
 pub mod Saves

@@ -13,7 +13,7 @@ use Rattle.counting.specs.Frames.{cardOf}
 use Rattle.schedule.specs.Schedule.{cycleOf}
 use Rattle.schedule.specs.Greedy.{Plan, waits, enter, isFirst, oneCycle}
 use Rattle.counting.proofs.Lists.{length-tabulate, getD-tabulate}
-use Rattle.greedy_pool.proofs.Snoc.{length-snoc}
+use Rattle.counting.proofs.Snoc.{length-snoc}
 
 -- a frame enters
 pub enter-length : (p : Plan) → length (enter p .cycles) ≡ suc (length (p .cycles))

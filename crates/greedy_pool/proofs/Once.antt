@@ -14,11 +14,11 @@ use Rattle.counting.specs.Frames.{cardOf}
 use Rattle.schedule.specs.Schedule.{cycleOf}
 use Rattle.schedule.specs.Greedy.{Plan}
 use Rattle.counting.proofs.Bits.{by-cases, by-test, and-left, and-right}
-use Rattle.counting.proofs.Sums.{sum-cong, on-one-card}
+use Rattle.counting.proofs.Sums.{sum-cong, on-one-card, zero-or-one-of}
 use Rattle.header.specs.Limits.{maxCards}
 use Rattle.greedy_pool.specs.Pool.{none, poolOf}
 use Rattle.greedy_pool.specs.Log.{frameAmong, entriesOf, cyclesUpTo, logOf, times, timesIn, Told}
-use Rattle.greedy_pool.proofs.Times.{times-tabulate, timesIn-snoc, times-pool, zero-or-one-of}
+use Rattle.greedy_pool.proofs.Times.{times-tabulate, timesIn-snoc, times-pool}
 
 -- the entry of card k is no frame from n on
 frame-not : (cards cycles : List ℕ) (c k n i : ℕ) → n ≤ i → i < none → eqb (frameAmong cards cycles c k n) i ≡ false

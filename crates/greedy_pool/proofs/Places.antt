@@ -13,7 +13,7 @@ use Rattle.schedule.specs.Greedy.{waits}
 use Rattle.counting.proofs.Bits.{by-cases}
 use Rattle.counting.proofs.Sums.{sum-cong}
 use Rattle.greedy_pool.specs.Pool.{isOldest, waitingAmong}
-use Rattle.greedy_pool.proofs.Snoc.{length-snoc, count-snoc, Tabled, tabled-front, tabled-last}
+use Rattle.counting.proofs.Snoc.{length-snoc, count-snoc, Tabled, tabled-front, tabled-last}
 
 -- one frame more: it waits and stands at the end, or the list stays
 pub waiting-more : (cycles : List ℕ) (n : ℕ) → waits cycles n ≡ true → waitingAmong cycles (suc n) ≡ waitingAmong cycles n ++ (n ∷ [])

@@ -15,7 +15,7 @@ use Rattle.schedule.specs.Greedy.{Plan, waits, inPool, enter, oneCycle}
 use Rattle.counting.proofs.Bits.{by-cases}
 use Rattle.greedy_pool.specs.Pool.{left, writes, waitingAmong, poolOf}
 use Rattle.greedy_pool.specs.Log.{frameAmong}
-use Rattle.greedy_pool.proofs.Snoc.{length-snoc, Tabled, tabled-front, tabled-last}
+use Rattle.counting.proofs.Snoc.{length-snoc, Tabled, tabled-front, tabled-last, left-more}
 use Rattle.greedy_pool.proofs.Places.{waiting-more, waiting-same, waiting-length, waiting-cong, place-oldest}
 use Rattle.greedy_pool.proofs.Next.{enter-length, enter-old, enter-new, noneBefore, next-length, next-stays, next-waits, next-written}
 
@@ -27,11 +27,6 @@ pool-enter p =
     let same : waitingAmong (enter p .cycles) (length (p .cycles)) ≡ poolOf (p .cycles) =
     waiting-cong (enter p .cycles) (p .cycles) (length (p .cycles)) (λ i l. rw (enter-old p i l)) in
     rw (enter-length p, enter-new p, same)
-
--- one frame more of those that are left, and of those that a cycle leaves
-left-more : (f : ℕ → ℕ) (l : List ℕ) (n : ℕ) (b : Bool) → map f l ++ cond b [] (f n ∷ []) ≡ map f (l ++ cond (not b) (n ∷ []) [])
-left-more f l n true = sym (map-append f l [])
-left-more f l n false = sym (map-append f l (n ∷ []))
 
 module _ (cards : List ℕ) (p : Plan) (c v : List ℕ) where
   abbrev L : ℕ

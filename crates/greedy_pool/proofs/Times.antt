@@ -11,7 +11,7 @@ use borrow.Author.Tests.{eq-eqb, ne-eqb}
 use Rattle.counting.specs.Count.{bit, howMany, tabulate}
 use Rattle.schedule.specs.Greedy.{waits}
 use Rattle.counting.proofs.Bits.{by-cases}
-use Rattle.counting.proofs.Sums.{sum-cong, sum-zero, equal-one}
+use Rattle.counting.proofs.Sums.{sum-cong, sum-zero, equal-one, one-at}
 use Rattle.greedy_pool.specs.Pool.{waitingAmong}
 use Rattle.greedy_pool.specs.Log.{times, timesIn}
 use Rattle.greedy_pool.proofs.Places.{waiting-more, waiting-same}
@@ -28,19 +28,6 @@ pub timesIn-snoc : (i : ℕ) (log : List (List ℕ)) (entries : List ℕ) → ti
 timesIn-snoc i [] entries = omega arith
 timesIn-snoc i (first ∷ log) entries = omega (arith, timesIn-snoc i log entries)
 
--- a test counted at the numbers that equal x: none of them below x, one of them above it
-none-at : (n x : ℕ) (t : ℕ → Bool) → n ≤ x → howMany n (λ j. eqb j x && t j) ≡ 0
-none-at zero x t h = refl
-none-at (suc n) x t h = rw (ne-eqb n x (λ e. omega arith)) (omega (arith, none-at n x t (omega arith)))
-
-one-at : (n x : ℕ) (t : ℕ → Bool) → x < n → howMany n (λ j. eqb j x && t j) ≡ bit (t x)
-one-at zero x t h = omega arith
-one-at (suc n) x t h =
-    elim (decLt x n) [
-      | yes l ↦ rw (ne-eqb n x (λ e. omega arith)) (omega (arith, one-at n x t l))
-      | no l ↦ (let e : n ≡ x = omega arith in rw (e, eq-eqb x x refl) (omega (arith, none-at x x t (omega arith))))
-    ]
-
 -- a frame stands in the pool once, or it does not wait
 times-waiting : (cycles : List ℕ) (i n : ℕ) → times i (waitingAmong cycles n) ≡ howMany n (λ j. eqb j i && waits cycles j)
 times-waiting cycles i zero = refl
@@ -53,15 +40,3 @@ times-waiting cycles i (suc n) =
 
 pub times-pool : (cycles : List ℕ) (i n : ℕ) → i < n → times i (waitingAmong cycles n) ≡ bit (waits cycles i)
 times-pool cycles i n l = times-waiting cycles i n ∙ one-at n i (waits cycles) l
-
--- a number up to t is 0 or one of 1 to t
-pub zero-or-one-of : (x t : ℕ) → x ≤ t → howMany t (λ c. eqb x (suc c)) + bit (eqb x 0) ≡ 1
-zero-or-one-of zero t h =
-    omega (arith, sum-cong t (λ c. bit (eqb 0 (suc c))) (λ c. 0) (λ c l. ap bit (eqb·zero-suc c)), sum-zero t)
-zero-or-one-of (suc x) t h =
-    omega (
-      arith,
-      sum-cong t (λ c. bit (eqb (suc x) (suc c))) (λ c. bit (eqb x c)) (λ c l. ap bit (eqb·suc-suc x c)),
-      equal-one t x h,
-      ap bit (eqb·suc-zero x),
-    )

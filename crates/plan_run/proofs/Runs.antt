@@ -12,6 +12,7 @@ use Rattle.schedule.specs.Schedule.{cyclesIn}
 use Rattle.schedule.specs.Dock.{emptyDock, run}
 use Rattle.schedule.specs.Drive.{complete, unfinished, outcome, peak, stepsOf, stepsTo}
 use Rattle.counting.specs.declared.Cycle.{Cycle}
+use Rattle.counting.proofs.Bits.{leb-none}
 use Rattle.header.specs.declared.Header.{Header}
 use Rattle.ticket.specs.Ticket.{accepted, refused, parse}
 use Rattle.ticket.specs.Grounds.{Fits}
@@ -52,10 +53,6 @@ module _
       rw (t .shows .broken, t .shows .delivered, ended-is, ← t .outcome-is, t .peak-is)
 
 -- the empty dock
-
-leb-none : (n : ℕ) → leb n 0 ≡ eqb n 0
-leb-none zero = refl
-leb-none (suc n) = lt-leb (suc n) 0 (omega arith) ∙ sym (ne-eqb (suc n) 0 (λ e. omega arith))
 
 module _ (h : Header) (cards rest : List ℕ) (f : Fits h cards) where
   pub start-tracks : Tracks (h .pool) cards [] (atStart (h .pool) (length cards)) (cards ++ rest)

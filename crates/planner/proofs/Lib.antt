@@ -4,5 +4,3 @@ pub mod Demand
 pub mod Answers
 pub mod Plans
 pub mod Tables
-pub mod Turned
-pub mod Firsts

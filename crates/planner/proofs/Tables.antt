@@ -15,8 +15,9 @@ use Rattle.header.specs.Limits.{maxCards, maxFrames}
 use Rattle.greedy_pass.proofs.Shown.{Top}
 use Rattle.greedy_pass.proofs.Process.{Saved, Ready}
 use Rattle.greedy_pass.proofs.Process as process
-use Rattle.planner.specs.Pass.{turned, takenAt, Asked, Passed}
-use Rattle.planner.proofs.Turned.{place-lt, place-apart, length-turned, turned-turned, getD-turned}
+use Rattle.counting.specs.Lists.{turned, takenAt}
+use Rattle.planner.specs.Pass.{Asked, Passed}
+use Rattle.counting.proofs.Turned.{taken-lt, taken-apart, length-turned, turned-turned, getD-turned}
 
 -- the cycle of the frame taken i-th, and an entry of an array
 abbrev cycleAt : Bool → ℕ → List ℕ → ℕ → ℕ
@@ -91,7 +92,7 @@ module _ {m : ℕ} {back : Bool} {cards out₀ out due latest : List ℕ} {made 
     -- the next frame, at place i and of card c, enters with cycle s
     module _ {made′ waiting′ : ℕ} (o : Open m back cards out due latest made′ waiting′ k) {i : ℕ} (i-is : i ≡ takenAt back (length cards) k) where
       i-inside : i < length cards
-      i-inside = rw i-is (place-lt back (length cards) k l)
+      i-inside = rw i-is (taken-lt back (length cards) k l)
 
       module _ {c s u : ℕ} (c-is : c ≡ getD cards i 0) (s-is : s ≡ max (getD latest c 0) made′ + 1) (u-is : u ≡ s) where
         card-is : getD (turned back cards) k 0 ≡ c
@@ -111,7 +112,7 @@ module _ {m : ℕ} {back : Bool} {cards out₀ out due latest : List ℕ} {made 
               saved =
                   rw (add-one k)
                   (process.enters (o .ready)
-                  (λ j g. getD-set-other out i (takenAt back (length cards) j) s 0 (λ e. place-apart back (length cards) j k g l (e ∙ i-is)))
+                  (λ j g. getD-set-other out i (takenAt back (length cards) j) s 0 (λ e. taken-apart back (length cards) j k g l (e ∙ i-is)))
                   (cycle-is ∙ rw card-is s-is)
                   (rw (card-is, cycle-is) (getD-set-same latest c s 0 (omega (arith, c-is, f .each-card i i-inside, v .long-latest))))
                   (λ x g. getD-set-other latest c x s 0 (λ e. g (e ∙ sym card-is)))
@@ -144,7 +145,7 @@ module _ {m : ℕ} {back : Bool} {cards out₀ out due latest : List ℕ} {made 
         (λ i h.
         let q : i < length cards = omega (arith, length-turned back cards) in
         getD-turned back front i (omega (arith, front-length))
-        ∙ rw front-length (getD-take (length cards) out (takenAt back (length cards) i) 0 (place-lt back (length cards) i q)))
+        ∙ rw front-length (getD-take (length cards) out (takenAt back (length cards) i) 0 (taken-lt back (length cards) i q)))
 
     filled : out ≡ written (turned back (greedyWriting m list .cycles)) out₀
     filled =

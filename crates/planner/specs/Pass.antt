@@ -7,23 +7,10 @@ use mathlib.Core.List.{List, _++_, map, reverse}
 use lib.ListN.{length, take, drop}
 use Rattle.counting.specs.Count.{written}
 use Rattle.counting.specs.Frames.{cardOf}
+use Rattle.counting.specs.Lists.{turned}
 use Rattle.schedule.specs.Greedy.{Plan, saveAndKeep, greedyWriting}
 use Rattle.header.specs.Limits.{maxCards, maxFrames}
 use Rattle.greedy_pass.specs.AsOf.{asOf}
-
--- a list taken from its back, or from its front
-abbrev pub turned : Bool → List ℕ → List ℕ
-turned true l = reverse l
-turned false l = l
-
--- where the element stands that is taken k-th
-abbrev pub takenAt : Bool → ℕ → ℕ → ℕ
-takenAt true n k = n - suc k
-takenAt false n k = k
-
--- f of the first n elements; the others as they are
-abbrev pub onFirst : (ℕ → ℕ) → ℕ → List ℕ → List ℕ
-onFirst f n l = map f (take n l) ++ drop n l
 
 -- a list within the limits, and a buffer with room for its plan
 pub record Asked (m : ℕ) (cards out : List ℕ) : Type 0 where

@@ -4,7 +4,8 @@ ghost use Prim.Native.Nat.{_+_, _≤_, _<_, max};
 ghost use lib.ListN.{length};
 ghost use Rattle.counting.specs.Count.{largest};
 ghost use Rattle.header.specs.Limits.{maxCards};
-ghost use Rattle.planner.specs.Pass.{takenAt, Asked, Passed};
+ghost use Rattle.counting.specs.Lists.{takenAt};
+ghost use Rattle.planner.specs.Pass.{Asked, Passed};
 use counting::Cycle;
 
 // The cycle of a frame that enters: the first that its card has free, after the cycles made.

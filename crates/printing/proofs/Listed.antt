@@ -21,7 +21,7 @@ use Rattle.ticket.proofs.Main.{accepted-length, accepted-few, line-card}
 use Rattle.planner.specs.Plan.{planFor}
 use Rattle.printing.specs.Printed.{frameLine, frameLines, planText, textOf, printed, refusalText}
 use Rattle.printing.specs.Put.{Made, Put}
-use Rattle.text.proofs.Puts.{sets-append, put-length}
+use Rattle.counting.proofs.Lists.{sets-append, sets-length, two-bytes}
 use Rattle.printing.proofs.Outcome.{room}
 
 -- FF, the number and the end of the line
@@ -35,7 +35,7 @@ put-refusal l x y number e f =
     rw (f, e, sets-append l 0 a b 2 (rw (length-hex 2 255)), sets-append l 0 (a ++ b) endOfLine 4 (rw four), append-assoc a b endOfLine)
 
 pub refusal-long : (l x y : List ℕ) (mark number : ℕ) → x ≡ sets l 0 (hex 2 mark) → y ≡ sets x 2 (hex 2 number) → length y ≡ length l
-refusal-long l x y mark number e f = put-length x y 2 (hex 2 number) f ∙ put-length l x 0 (hex 2 mark) e
+refusal-long l x y mark number e f = sets-length x y 2 (hex 2 number) f ∙ sets-length l x 0 (hex 2 mark) e
 
 pub refusal-length : (number : ℕ) → length (refusalText number) ≡ 5
 unfolding refusalText
@@ -48,7 +48,7 @@ put-head : (l x : List ℕ) (T : ℕ) → x ≡ sets l 0 (hex 4 T) → set x 4 e
 put-head l x T e = rw e (sets-append l 0 (hex 4 T) endOfLine 4 (rw (length-hex 4 T)))
 
 pub head-length : (l x y : List ℕ) (T : ℕ) (text : List ℕ) → x ≡ sets l 0 (hex 4 T) → y ≡ sets (set x 4 endByte) 5 text → length y ≡ length l
-head-length l x y T text e f = put-length (set x 4 endByte) y 5 text f ∙ length-set x 4 endByte ∙ put-length l x 0 (hex 4 T) e
+head-length l x y T text e f = sets-length (set x 4 endByte) y 5 text f ∙ length-set x 4 endByte ∙ sets-length l x 0 (hex 4 T) e
 
 -- a line with two digits for the card has 11 bytes
 line-long : (position cycle : ℕ) (card : List ℕ) → length card ≡ 2 → length (hex 4 position ++ (card ++ (hex 4 cycle ++ endOfLine))) ≡ 11
@@ -94,9 +94,6 @@ module _ (ticket plan : List ℕ) where
       (l x y : List ℕ) (i : ℕ) → x ≡ sets l 5 (linesFrom i) → y ≡ sets x (5 + 11 * i) (lineFrom i) → y ≡ sets l 5 (linesFrom (i + 1))
   unfolding linesFrom
   next-line l x y i e f = rw (add-one, f, e) (sets-append l 5 (linesFrom i) (lineFrom i) (5 + 11 * i) (rw (lines-long i)))
-
-two-bytes : (l : List ℕ) (k : ℕ) → k + 1 < length l → take 2 (drop k l) ≡ getD l k 0 ∷ getD l (k + 1) 0 ∷ []
-two-bytes l k h = rw (drop-cons l k 0 (omega (arith, h)), drop-cons l (suc k) 0 (omega (arith, h)), add-one)
 
 module _ (ticket : List ℕ) (T : ℕ) (plan : List ℕ) (made : Made ticket T plan) where
   abbrev h : Header

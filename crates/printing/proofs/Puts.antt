@@ -7,7 +7,7 @@ use native.Mathlib.Omega.{arith}
 use lib.ListN.{length, set, length-set, length-append}
 use lib.Seq.{sets}
 use Rattle.text.proofs.Hex.{length-hex}
-use Rattle.text.proofs.Puts.{sets-append, put-length}
+use Rattle.counting.proofs.Lists.{sets-append, sets-length}
 use Rattle.text.specs.Hex.{hex, endOfLine}
 use Rattle.text.specs.Text.{endByte}
 
@@ -15,10 +15,10 @@ module _ (l x y : List ℕ) (at position high low cycle : ℕ) where
   pub line-length :
       x ≡ sets l at (hex 4 position) → y ≡ sets (set (set x (at + 4) high) (at + 5) low) (at + 6) (hex 4 cycle) → length y ≡ length l
   line-length e f =
-      put-length (set (set x (at + 4) high) (at + 5) low) y (at + 6) (hex 4 cycle) f
+      sets-length (set (set x (at + 4) high) (at + 5) low) y (at + 6) (hex 4 cycle) f
       ∙ length-set (set x (at + 4) high) (at + 5) low
       ∙ length-set x (at + 4) high
-      ∙ put-length l x at (hex 4 position) e
+      ∙ sets-length l x at (hex 4 position) e
 
   -- a frame's line
   pub put-line :

@@ -8,6 +8,7 @@ use native.Mathlib.Decide.{ℕ-discrete}
 use lib.ListN.{getD, drop}
 use borrow.Author.Tests.{eq-eqb, ne-eqb}
 use Rattle.counting.specs.Frames.{cardOf}
+use Rattle.counting.proofs.Lists.{drop-head}
 use Rattle.schedule.specs.Greedy.{Plan, oneCycle}
 use Rattle.schedule.specs.Greedy as greedy
 use Rattle.header.specs.Limits.{maxCards}
@@ -19,7 +20,6 @@ use Rattle.saver.specs.Calls.{saveOf, closeOf}
 use Rattle.saver.specs.Formed.{Formed}
 use Rattle.saver.specs.Follows.{ShowsPlan, Tells}
 use Rattle.saver.specs.Runs.{Call, save, close, after, logged, log, accepted}
-use Rattle.saver.proofs.Tables.{drop-head}
 use Rattle.saver.proofs.Answers.{save-cases, close-cases}
 use Rattle.saver.proofs.Forming.{formed-save, formed-close}
 use Rattle.saver.proofs.Saving.{save-follows, close-follows}

@@ -12,6 +12,7 @@ use lib.Seq.{getD-set-same, getD-set-other}
 use borrow.Author.Tests.{leb-true}
 use Rattle.counting.specs.Count.{written}
 use Rattle.counting.proofs.Bits.{by-test, and-left, and-right}
+use Rattle.counting.proofs.Lists.{one-more-below}
 use Rattle.header.specs.Limits.{maxCards, maxPool, maxFrames}
 use Rattle.greedy_pool.proofs.Left.{left-shorter, left-same-length, left-all}
 use Rattle.saver.specs.declared.Saver.{Saver}
@@ -37,15 +38,6 @@ formed-new cards pool closing a b h k =
       cards-long = length-replicate {A = ℕ} maxPool 0;
       positions-long = length-replicate maxPool (position 0);
     }
-
--- the values of a table with one more, all below a bound
-one-more-below : (table : List ℕ) (n x b : ℕ) → n < length table → ((i : ℕ) → i < n → getD table i 0 < b) → x < b
-    → (i : ℕ) → i < n + 1 → getD (set table n x) i 0 < b
-one-more-below table n x b room h g i l =
-    elim (decLt i n) [
-      | yes k ↦ rw (getD-set-other table n i x 0 (λ e. omega arith)) (h i k)
-      | no k ↦ (let e : i ≡ n = omega arith in rw (e, getD-set-same table n x 0 room) g)
-    ]
 
 formed-entered : (s : Saver) (card : ℕ) → Formed s → card < s .cards → s .taken < maxFrames → s .waiting < s .pool → Formed (entered s card)
 formed-entered s card f c t w =
@@ -77,9 +69,6 @@ table-long l h =
       length-replicate {A = ℕ} maxPool 0,
     )
 
-table-front : (l table : List ℕ) (i : ℕ) → i < length l → getD (written l table) i 0 ≡ getD l i 0
-table-front l table i h = List·getD-append l (drop (length l) table) 0 i h
-
 pub formed-cycle : (s : Saver) → Formed s → 1 ≤ s .waiting → Formed (afterCycle s) × (afterCycle s .waiting < s .waiting)
 formed-cycle s f some =
     let fewer : length (cardsLeft s) < s .waiting = left-shorter (s .card) (s .card) (s .waiting) some in
@@ -91,9 +80,9 @@ formed-cycle s f some =
         in-pool = omega (arith, f .in-pool);
         all-taken = omega (arith, f .all-taken);
         few-taken = f .few-taken;
-        each-card = λ i l. rw (table-front (cardsLeft s) (replicate maxPool 0) i l) (left-all (s .card) (s .card) (s .waiting) (s .cards) (f .each-card) i l);
+        each-card = λ i l. rw (List·getD-append (cardsLeft s) _ 0 i l) (left-all (s .card) (s .card) (s .waiting) (s .cards) (f .each-card) i l);
         each-position = λ i l.
-            rw (numbers-of (written (positionsLeft s) (replicate maxPool 0)), table-front (positionsLeft s) (replicate maxPool 0) i (omega arith))
+            rw (numbers-of (written (positionsLeft s) (replicate maxPool 0)), List·getD-append (positionsLeft s) _ 0 i (omega arith))
             (left-all (s .card) (numbers (s .position)) (s .waiting) (s .taken) (f .each-position) i (omega arith));
         cards-long = table-long (cardsLeft s) (omega (arith, f .in-pool, f .small-pool));
         positions-long =

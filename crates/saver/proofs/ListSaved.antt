@@ -10,6 +10,7 @@ use native.Mathlib.Decide.{decLt}
 use lib.ListN.{length, getD, drop, replicate}
 use borrow.Author.Tests.{ne-eqb}
 use Rattle.counting.specs.Frames.{cardOf}
+use Rattle.counting.proofs.Lists.{drop-head}
 use Rattle.schedule.specs.Greedy.{Plan, inPool, oneCycle, saveFirst, flush}
 use Rattle.schedule.specs.Greedy as greedy
 use Rattle.header.specs.Limits.{maxFrames}
@@ -21,7 +22,6 @@ use Rattle.saver.specs.Calls.{closingBegun, saveOf, closeOf}
 use Rattle.saver.specs.Formed.{Formed}
 use Rattle.saver.specs.Follows.{ShowsPlan, Tells}
 use Rattle.saver.specs.Runs.{save, close, after, logged, log}
-use Rattle.saver.proofs.Tables.{drop-head}
 use Rattle.saver.proofs.Answers.{save-cases, close-empty, close-cycles}
 use Rattle.saver.proofs.Forming.{formed-save, formed-close, formed-cycle, formed-closing}
 use Rattle.saver.proofs.Saving.{save-follows, close-follows}

@@ -17,26 +17,12 @@ use Rattle.schedule.specs.Dock.{Step, readFrame, endCycle, Dock, emptyDo
 use Rattle.schedule.specs.Drive.{readsOf, stepsTo, stepsOf, peak}
 use Rattle.schedule.specs.Closed.{readBefore}
 use Rattle.counting.proofs.Bits.{by-cases, and-left, and-right, bit-le-one, bit-mono}
-use Rattle.counting.proofs.Sums.{sum-mono, sum-add, sum-zero, sum-one, equal-one}
+use Rattle.counting.proofs.Sums.{sum-mono, sum-add, sum-zero, sum-one, equal-one, one-missing}
 use Rattle.counting.proofs.Lists.{length-tabulate, getD-tabulate, le-largest, largest-le}
 use Rattle.schedule.proofs.Mid as mid
 use Rattle.schedule.proofs.Drive as drive
 
 -- a buffer for every frame is a pool that suffices
-
-one-fails : (n i : ℕ) (t : ℕ → Bool) → i < n → t i ≡ false → howMany n t < n
-one-fails n i t l e =
-    omega (
-      arith,
-      sum-mono n (λ j. bit (t j) + bit (eqb i j)) (λ j. 1)
-          (λ j k.
-          by-cases (eqb i j)
-          (λ q. let f : t j ≡ false = rw (eqb-true i j q) at e in rw (f, q) (omega arith))
-          (λ q. rw q (omega (arith, bit-le-one (t j))))),
-      sum-add n (λ j. bit (t j)) (λ j. bit (eqb i j)),
-      sum-one n,
-      equal-one n i l,
-    )
 
 every-frame-fits : (m : ℕ) (cards cycles : List ℕ) → CorrectRead m cards cycles → CorrectRead (length cards) cards cycles
 every-frame-fits m cards cycles ok =
@@ -46,7 +32,7 @@ every-frame-fits m cards cycles ok =
       card-rule = ok .card-rule;
       pool-rule = λ i l.
           rw (ok .one-each)
-          (one-fails (length cards) i (λ j. ltb i j && leb (cycleOf cycles j) (cycleOf cycles i)) l (rw (le-ltb i i (omega arith))));
+          (one-missing (length cards) i (λ j. ltb i j && leb (cycleOf cycles j) (cycleOf cycles i)) l (rw (le-ltb i i (omega arith))));
     }
 
 module _ (m : ℕ) (cards : List ℕ) where

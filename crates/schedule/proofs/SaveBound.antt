@@ -14,18 +14,10 @@ use borrow.Author.Tests.{eqb-true, le-leb, lt-leb}
 use Rattle.counting.specs.Count.{bit, sum, howMany}
 use Rattle.counting.specs.Frames.{cardOf}
 use Rattle.schedule.specs.Schedule.{cycleOf, cyclesIn, CorrectSave}
-use Rattle.counting.proofs.Bits.{bit-and-le, bit-and-off, bit-up-to, and-left, and-right}
+use Rattle.counting.proofs.Bits.{bit-and-le, bit-and-off, bit-up-to, and-left, and-right, later-or-done}
 use Rattle.counting.proofs.Sums.{over-cards, sum-mono, sum-add, sum-zero, sum-one, sum-cut, sum-longer, at-most-one}
 use Rattle.counting.proofs.Lists.{le-largest}
 use Rattle.schedule.proofs.Bound.{bound, under-bound}
-
--- a cycle x is y or later, or it is up to t, where y is up to t + 1
-later-or-done : (x y t : ℕ) → y ≤ suc t → 1 ≤ bit (leb y x) + bit (leb x t)
-later-or-done x y t h =
-    elim (decLe y x) [
-      | yes l ↦ rw (le-leb y x l) (omega arith)
-      | no n ↦ (let g : x ≤ t = omega arith in rw (le-leb x t g) (omega arith))
-    ]
 
 module _ (m : ℕ) (cards cycles : List ℕ) (D : ℕ) (low : (i : ℕ) → i < length cards → cardOf cards i < D) (ok : CorrectSave m cards cycles) where
   abbrev L : ℕ

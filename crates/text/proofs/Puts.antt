@@ -9,7 +9,7 @@ use native.Mathlib.Nat.{add-zero, add-suc, div-one, div-div-eq-div-mul, pow-suc,
 use lib.Arith.{mod-mul}
 use lib.ListN.{length, getD, set}
 use lib.Seq.{sets, length-sets}
-use Rattle.counting.proofs.Lists.{getD-tabulate}
+use Rattle.counting.proofs.Lists.{getD-tabulate, sets-append}
 use Rattle.text.specs.Hex.{digitOf, digitTexts, hex}
 use Rattle.text.proofs.Hex.{length-hex, hex-step}
 
@@ -36,16 +36,6 @@ hex-split a (suc b) v =
     let low : v % 16 ^ suc b ≡ v / 16 % 16 ^ b * 16 + v % 16 = rw pow-suc (mod-mul v (one-le-pow b 16 (omega arith)) (omega arith)) in
     rw (add-suc, hex-split a b (v / 16), high, low, hex-step b (v / 16 % 16 ^ b) (v % 16) (omega arith))
     (append-assoc (hex a (v / 16 ^ suc b)) (hex b (v / 16 % 16 ^ b)) (digitOf (v % 16) ∷ []))
-
--- a run of stores keeps the length, and a run from where it ended makes one run of both
-pub put-length : (l x : List ℕ) (at : ℕ) (text : List ℕ) → x ≡ sets l at text → length x ≡ length l
-put-length l x at text e = ap length e ∙ length-sets l at text
-
-pub sets-append : (l : List ℕ) (i : ℕ) (a b : List ℕ) (k : ℕ) → k ≡ i + length a → sets (sets l i a) k b ≡ sets l i (a ++ b)
-sets-append l i [] b k e =
-    let f : k ≡ i = omega (arith, e) in
-    rw f
-sets-append l i (x ∷ a) b k e = sets-append (set l i x) (suc i) a b k (omega (arith, e))
 
 pub put-both :
     (a b : ℕ) (l x y : List ℕ) (at v : ℕ) → x ≡ sets l at (hex a (v / 16 ^ b)) → y ≡ sets x (at + a) (hex b (v % 16 ^ b))

@@ -11,7 +11,7 @@ use lib.ListN.{length, take, drop, length-take}
 use lib.Seq.{getD-take, take-nil}
 use borrow.Author.Tests.{lt-ltb, le-ltb}
 use Rattle.counting.specs.Count.{tabulate}
-use Rattle.counting.proofs.Lists.{tabulate-cong}
+use Rattle.counting.proofs.Lists.{tabulate-cong, drop-take}
 use Rattle.text.specs.Text.{digits, number, isLine}
 use Rattle.header.specs.Heading.{headerDigits, headerBytes, headerOf, heading}
 use Rattle.header.specs.Limits.{maxFrames}
@@ -19,14 +19,7 @@ use Rattle.header.specs.declared.Answer.{Answer}
 use Rattle.header.specs.declared.Answer.the-variants.{Accepted, Refused}
 use Rattle.ticket.specs.Ticket.{parsePart, parse, lineBytes, lineDigits, cardAt, lineFault, linesFault, partFault}
 use Rattle.ticket.proofs.Answers.{few-frames}
-
--- whether a place is inside, at a place below n
-inside : (n at : ℕ) (s : List ℕ) → at < n → ltb at (length (take n s)) ≡ ltb at (length s)
-inside n at s h =
-    elim (decLt at (length s)) [
-      | yes l ↦ rw (lt-ltb at (length s) l) (lt-ltb at (length (take n s)) (rw (length-take n s) (omega arith)))
-      | no l ↦ rw (le-ltb at (length s) (omega arith)) (le-ltb at (length (take n s)) (rw (length-take n s) (omega arith)))
-    ]
+use Rattle.counting.proofs.Lists.{below-take}
 
 module _ (n : ℕ) (s : List ℕ) (at : ℕ) where
   number-front : (k : ℕ) → at + k ≤ n → number (take n s) at k ≡ number s at k
@@ -41,7 +34,7 @@ module _ (n : ℕ) (s : List ℕ) (at : ℕ) where
 
   line-front : (k : ℕ) → at + k < n → isLine (take n s) at k ≡ isLine s at k
   unfolding isLine
-  line-front k h = rw (inside n (at + k) s h, digits-front k (omega arith), getD-take n s (at + k) 0 h)
+  line-front k h = rw (below-take n (at + k) s h, digits-front k (omega arith), getD-take n s (at + k) 0 h)
 
 module _ (n cards : ℕ) (s : List ℕ) where
   fault-front : (i : ℕ) → lineBytes * i + lineDigits < n → lineFault (take n s) cards i ≡ lineFault s cards i
@@ -55,16 +48,11 @@ module _ (n cards : ℕ) (s : List ℕ) where
 
   part-front : (k : ℕ) → lineBytes * k < n → partFault (take n s) cards k ≡ partFault s cards k
   unfolding partFault
-  part-front k h = rw (faults-front k (omega arith), inside n (lineBytes * k) s h)
+  part-front k h = rw (faults-front k (omega arith), below-take n (lineBytes * k) s h)
 
   cards-front : (k : ℕ) → lineBytes * k ≤ n → tabulate k (cardAt (take n s)) ≡ tabulate k (cardAt s)
   unfolding cardAt
   cards-front k h = tabulate-cong k (cardAt (take n s)) (cardAt s) (λ i l. number-front n s (lineBytes * i) 2 (omega arith))
-
-drop-take : (k n : ℕ) (s : List ℕ) → drop k (take (k + n) s) ≡ take n (drop k s)
-drop-take zero n s = rw zero-add
-drop-take (suc k) n [] = rw (take-nil {A = ℕ} (suc k + n), take-nil {A = ℕ} n)
-drop-take (suc k) n (x ∷ s) = rw (suc-add k n) (drop-take k n s)
 
 module _ (n : ℕ) (t : List ℕ) (long : headerBytes + lineBytes * maxFrames < n) where
   heading-front : heading (take n t) ≡ heading t

@@ -10,6 +10,7 @@ use lib.Seq.{take-add, take-suc, take-all, getD-drop, drop-drop}
 use borrow.Author.Tests.{lt-ltb}
 use Rattle.counting.specs.Count.{tabulate}
 use Rattle.counting.specs.Frames.{cardOf}
+use Rattle.counting.proofs.Lists.{parts-meet}
 use Rattle.text.specs.Hex.{hex, endOfLine}
 use Rattle.text.specs.Text.{digits, number, Line}
 use Rattle.text.proofs.Digits.{line-digits, field-digits}
@@ -49,14 +50,11 @@ module _ (t : List ℕ) (l : Line t 0 headerDigits) where
       let k : 0 < length (drop headerDigits t) = rw length-drop (omega (arith, l .inside)) in
       sym (take-suc (drop headerDigits t) 0 0 k ∙ ap (λ (b : ℕ). b ∷ []) (getD-drop headerDigits t 0 0 ∙ l .ends))
 
-  join : (at a b : ℕ) → take a (drop at t) ++ take b (drop (at + a) t) ≡ take (a + b) (drop at t)
-  join at a b = rw (take-add, drop-drop)
-
   header-back : headerText (headerOf t) ≡ take headerBytes t
   unfolding headerOf
   header-back =
       rw (field 0 2 (omega arith), field 2 2 (omega arith), field 4 2 (omega arith), field 6 4 (omega arith), field 10 4 (omega arith))
-      (rw (ends, join 10 4 1, join 6 4 5, join 4 2 9, join 2 2 11, join 0 2 13))
+      (rw (ends, parts-meet t 10 4 1, parts-meet t 6 4 5, parts-meet t 4 2 9, parts-meet t 2 2 11, parts-meet t 0 2 13))
 
 pub written : (t : List ℕ) (h : Header) (cards : List ℕ) → parse t ≡ accepted h cards → ticketText h cards ≡ t
 unfolding ticketText

@@ -4,7 +4,7 @@ use Prim.Native.Nat.{_≤_, _-_}
 use mathlib.Core.Path.{_≡_}
 use native.Mathlib.Omega.{arith}
 use Rattle.greedy_pass.specs.AsOf.{asOf}
-use Rattle.planner.proofs.Firsts.{Replaced, replaced-none, replaced-length, replaced-next}
+use Rattle.counting.proofs.Firsts.{Replaced, replaced-none, replaced-length, replaced-next}
 use borrow.Author.Needs.{needs}
 use Rattle.planner.proofs.modes.keep.Statement.{statement}
 use Rattle.planner.proofs.modes.keep.Tie as tie

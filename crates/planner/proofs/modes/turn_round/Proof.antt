@@ -3,7 +3,7 @@
 use Prim.Native.Nat.{_≤_, _-_, _+_}
 use mathlib.Core.Path.{_≡_, refl}
 use native.Mathlib.Omega.{arith}
-use Rattle.planner.proofs.Firsts.{Replaced, replaced-none, replaced-length, next-as-before, replaced-next}
+use Rattle.counting.proofs.Firsts.{Replaced, replaced-none, replaced-length, next-as-before, replaced-next}
 use borrow.Author.Needs.{needs}
 use Rattle.planner.proofs.modes.turn_round.Statement.{statement}
 use Rattle.planner.proofs.modes.turn_round.Tie as tie

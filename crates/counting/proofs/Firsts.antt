@@ -6,7 +6,7 @@ use mathlib.Core.List.{List, [], _∷_}
 use native.Mathlib.Omega.{arith}
 use native.Mathlib.Numerals.{add-one}
 use lib.ListN.{length, getD, set}
-use Rattle.planner.specs.Pass.{onFirst}
+use Rattle.counting.specs.Lists.{onFirst}
 
 length-onFirst : (f : ℕ → ℕ) (i : ℕ) (l : List ℕ) → length (onFirst f i l) ≡ length l
 length-onFirst f zero l = refl

@@ -6,16 +6,16 @@ use mathlib.Core.Bool.{Bool, true, false}
 use mathlib.Core.List.{List, reverse-reverse}
 use native.Mathlib.Omega.{arith}
 use lib.ListN.{length, getD, length-reverse}
 use Rattle.counting.proofs.Lists.{reverse-getD}
-use Rattle.planner.specs.Pass.{turned, takenAt}
+use Rattle.counting.specs.Lists.{turned, takenAt}
 
-pub place-lt : (back : Bool) (n k : ℕ) → k < n → takenAt back n k < n
-place-lt true n k h = omega arith
-place-lt false n k h = h
+pub taken-lt : (back : Bool) (n k : ℕ) → k < n → takenAt back n k < n
+taken-lt true n k h = omega arith
+taken-lt false n k h = h
 
-pub place-apart : (back : Bool) (n i k : ℕ) → i < k → k < n → takenAt back n i ≡ takenAt back n k → ⊥
-place-apart true n i k h g e = omega arith
-place-apart false n i k h g e = omega arith
+pub taken-apart : (back : Bool) (n i k : ℕ) → i < k → k < n → takenAt back n i ≡ takenAt back n k → ⊥
+taken-apart true n i k h g e = omega arith
+taken-apart false n i k h g e = omega arith
 
 pub length-turned : (back : Bool) (l : List ℕ) → length (turned back l) ≡ length l
 length-turned true l = length-reverse l
