@@ -1,3 +1,4 @@
+pub mod Tables
 pub mod Process
 pub mod Shown
 pub mod Due

@@ -1,1 +1,89 @@
-// Theory: a frame's cycle is known when the frame enters, so that greedyWriting takes one pass over the list. There is no code here.
+// greedyWriting in one pass over the list: a frame's cycle is known when the frame enters. The theory that makes one pass enough is in
+// proofs/: Assigned, Due, Shown and Process.
+ghost use mathlib.Core.Path.{_≡_};
+ghost use Prim.Native.Nat.{_+_, _≤_, _<_, max};
+ghost use lib.ListN.{length};
+ghost use Rattle.counting.specs.Count.{largest};
+ghost use Rattle.header.specs.Limits.{maxCards};
+ghost use Rattle.counting.specs.Lists.{takenAt};
+ghost use Rattle.greedy_pass.specs.Pass.{Asked, Passed};
+use counting::Cycle;
+
+// The cycle of a frame that enters: the first that its card has free, after the cycles made.
+fn next_cycle(latest: Cycle, made: Cycle) -> Cycle
+    requires { ⌜ (latest .0 ≤ 4096) × (made .0 ≤ 4096) ⌝ }
+    ensures { λ r. ⌜ r .0 ≡ max (latest .0) (made .0) + 1 ⌝ }
+{
+    if latest.0 < made.0 {
+        Cycle(made.0 + 1)
+    } else {
+        Cycle(latest.0 + 1)
+    }
+}
+
+// Where the frame stands that is taken k-th, from the front or from the back of a list of n.
+fn taken_at(back: bool, n: usize, k: usize) -> usize
+    requires { ⌜ k < n ⌝ }
+    ensures { λ r. ⌜ (r ≡ takenAt back n k) × (r < n) ⌝ }
+{
+    if back { n - 1 - k } else { k }
+}
+
+// The largest of the cards' latest cycles. The array's fixed length lets the compiler unroll the loop.
+fn largest(latest: &[u16; 32]) -> Cycle
+    requires { ⌜ length (now latest) ≡ maxCards ⌝ }
+    ensures { λ r. ⌜ r .0 ≡ largest (now (latest .entry)) ⌝ }
+{
+    let mut top: u16 = 0;
+    let mut c: usize = 0;
+    while c < 32 {
+        let l = latest[c];
+        c += 1;
+        if top < l {
+            top = l;
+        }
+    }
+    Cycle(top)
+}
+
+// The cycles made when the last frame has entered, and with the closing cycles.
+pub struct Cycles {
+    pub made: Cycle,
+    pub all: Cycle,
+}
+
+// Gives each frame of the list, taken from its front or from its back, its cycle of greedyWriting.
+//   due[s]     how many frames have cycle s
+//   latest[c]  the cycle of the frame of card c that entered last, 0 for none
+//   waiting    how many frames wait in the pool, with `made` cycles made
+pub fn pass(cards: &[u8], m: u16, back: bool, out: &mut [u16]) -> Cycles
+    requires { ⌜ Asked m (now cards) (now out) ⌝ }
+    ensures { λ r. ⌜ Passed m back (now (cards .entry)) (now (out .entry)) (now (out .exit)) (r .made .0) (r .all .0) ⌝ }
+{
+    let mut due = [0u16; 4097];
+    let mut latest = [0u16; 32];
+    let mut made = Cycle(0);
+    let mut waiting: u16 = 0;
+    let n = cards.len();
+    let mut k: usize = 0;
+    while k < n {
+        if m <= waiting {
+            made.0 += 1;
+            waiting -= due[counting::cycle_index(made)];
+        }
+        let i = taken_at(back, n, k);
+        let c = counting::card_index(cards[i]);
+        let last = latest[c];
+        let s = next_cycle(Cycle(last), made);
+        let u = counting::cycle_index(s);
+        latest[c] = s.0;
+        due[u] = due[u] + 1;
+        out[i] = s.0;
+        waiting += 1;
+        k += 1;
+    }
+    Cycles {
+        made: made,
+        all: largest(&latest),
+    }
+}

@@ -10,7 +10,8 @@ use Rattle.header.specs.declared.Header.{Header}
 use Rattle.ticket.specs.Ticket.{accepted, refused}
 use Rattle.ticket.specs.Grounds.{Fits}
 use Rattle.planner.specs.Plan.{planFor, planOf, bufferAfter, Answered}
-use Rattle.planner.specs.Pass.{Asked, Filled}
+use Rattle.greedy_pass.specs.Pass.{Asked}
+use Rattle.planner.specs.Filled.{Filled}
 use Rattle.planner.specs.declared.Answer.the-variants.{Planned, Refused}
 
 -- a list that is read, and a buffer

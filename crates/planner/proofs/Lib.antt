@@ -3,4 +3,3 @@ pub mod Cases
 pub mod Demand
 pub mod Answers
 pub mod Plans
-pub mod Tables

@@ -20,7 +20,8 @@ use Rattle.header.specs.Limits.{modeRead, modeSave}
 use Rattle.greedy_pass.specs.AsOf.{asOf}
 use Rattle.planner.specs.Plan.{planFor}
 use Rattle.counting.specs.Lists.{onFirst}
-use Rattle.planner.specs.Pass.{Asked, Passed, Filled}
+use Rattle.greedy_pass.specs.Pass.{Asked, Passed}
+use Rattle.planner.specs.Filled.{Filled}
 
 -- the elements written are replaced by f of them
 onFirst-written : (f : ℕ → ℕ) (n : ℕ) (l before : List ℕ) → length l ≡ n → onFirst f n (written l before) ≡ written (map f l) before

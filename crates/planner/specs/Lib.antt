@@ -1,5 +1,5 @@
 pub mod Plan
 pub mod Numbers
 pub mod Demand3
-pub mod Pass
+pub mod Filled
 pub mod Cases

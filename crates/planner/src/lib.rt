@@ -8,7 +8,6 @@ ghost use Rattle.planner.specs.Numbers.{numbersOf};
 ghost use Rattle.planner.specs.Demand3.{Demand3};
 
 mod modes;
-mod pass;
 
 use counting::Cycle;
 use header::Header;

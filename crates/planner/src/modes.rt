@@ -5,9 +5,9 @@ ghost use lib.ListN.{length, getD};
 ghost use Rattle.schedule.specs.Greedy.{greedyWriting, saveAndKeep, lazyPrefetching};
 ghost use Rattle.greedy_pass.specs.AsOf.{asOf};
 ghost use Rattle.counting.specs.Lists.{onFirst};
-ghost use Rattle.planner.specs.Pass.{Asked, Filled};
+ghost use Rattle.greedy_pass.specs.Pass.{Asked};
+ghost use Rattle.planner.specs.Filled.{Filled};
 ghost use Rattle.planner.specs.Plan.{planFor};
-use crate::pass;
 use counting::Cycle;
 use header::limits;
 
@@ -48,7 +48,7 @@ fn read_plan(cards: &[u8], m: u16, out: &mut [u16]) -> Cycle
     requires { ⌜ Asked m (now cards) (now out) ⌝ }
     ensures { λ r. ⌜ Filled (lazyPrefetching m (now (cards .entry))) (now (out .entry)) (now (out .exit)) (r .0) ⌝ }
 {
-    let turned = pass::pass(cards, m, true, out);
+    let turned = greedy_pass::pass(cards, m, true, out);
     turn_round(out, cards.len(), turned.all);
     turned.all
 }
@@ -57,7 +57,7 @@ fn save_plan(cards: &[u8], m: u16, out: &mut [u16]) -> Cycle
     requires { ⌜ Asked m (now cards) (now out) ⌝ }
     ensures { λ r. ⌜ Filled (greedyWriting m (now (cards .entry))) (now (out .entry)) (now (out .exit)) (r .0) ⌝ }
 {
-    let saved = pass::pass(cards, m, false, out);
+    let saved = greedy_pass::pass(cards, m, false, out);
     saved.all
 }
 
@@ -65,7 +65,7 @@ fn keep_plan(cards: &[u8], m: u16, out: &mut [u16]) -> Cycle
     requires { ⌜ Asked m (now cards) (now out) ⌝ }
     ensures { λ r. ⌜ Filled (saveAndKeep m (now (cards .entry))) (now (out .entry)) (now (out .exit)) (r .0) ⌝ }
 {
-    let kept = pass::pass(cards, m, false, out);
+    let kept = greedy_pass::pass(cards, m, false, out);
     keep(out, cards.len(), kept.made);
     kept.made
 }

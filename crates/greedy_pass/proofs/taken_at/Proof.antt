@@ -1,9 +1,9 @@
--- `planner::pass::taken_at` meets its contract.
+-- `greedy_pass::taken_at` meets its contract.
 -- Assumes nothing.
 use native.Mathlib.Omega.{arith}
 use borrow.Author.Needs.{needs}
-use Rattle.planner.proofs.pass.taken_at.Statement.{statement}
-use Rattle.planner.proofs.pass.taken_at.Tie as tie
+use Rattle.greedy_pass.proofs.taken_at.Statement.{statement}
+use Rattle.greedy_pass.proofs.taken_at.Tie as tie
 
 sub-result : tie.Need-sub-result
 sub-result c = search needs

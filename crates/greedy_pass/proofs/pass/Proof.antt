@@ -1,14 +1,14 @@
--- `planner::pass::pass` meets its contract. The loop's invariant is `Turn` of proofs/Tables.antt; each turn is one frame of the list.
+-- `greedy_pass::pass` meets its contract. The loop's invariant is `Turn` of proofs/Tables.antt; each turn is one frame of the list.
 -- Assumes nothing.
 use Prim.Native.Nat.{_≤_, _<_, _-_}
 use mathlib.Core.Logic.{⊎-elim}
 use native.Mathlib.Omega.{arith}
 use denote.Ref.{now}
-use Rattle.planner.proofs.Tables.{Turn, Open}
-use Rattle.planner.proofs.Tables as tables
+use Rattle.greedy_pass.proofs.Tables.{Turn, Open}
+use Rattle.greedy_pass.proofs.Tables as tables
 use borrow.Author.Needs.{needs}
-use Rattle.planner.proofs.pass.pass.Statement.{statement}
-use Rattle.planner.proofs.pass.pass.Tie as tie
+use Rattle.greedy_pass.proofs.pass.Statement.{statement}
+use Rattle.greedy_pass.proofs.pass.Tie as tie
 
 abbrev Inv-loop : tie.InvT-loop
 Inv-loop cards m back out₀ due₀ latest₀ made₀ waiting₀ n k₀ out due latest made waiting k =

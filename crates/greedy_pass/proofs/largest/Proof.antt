@@ -1,4 +1,4 @@
--- `planner::pass::largest` meets its contract.
+-- `greedy_pass::largest` meets its contract.
 -- Assumes nothing.
 use Prim.Native.Nat.{_≤_, _-_}
 use mathlib.Core.Path.{_≡_, refl}
@@ -8,8 +8,8 @@ use lib.Seq.{take-all}
 use Rattle.counting.specs.Count.{largest}
 use Rattle.counting.proofs.Lists.{largest-take}
 use borrow.Author.Needs.{needs}
-use Rattle.planner.proofs.pass.largest.Statement.{statement}
-use Rattle.planner.proofs.pass.largest.Tie as tie
+use Rattle.greedy_pass.proofs.largest.Statement.{statement}
+use Rattle.greedy_pass.proofs.largest.Tie as tie
 
 abbrev Inv-loop : tie.InvT-loop
 Inv-loop latest top₀ c₀ top c = (c ≤ 32) × (top ≡ largest (take c latest))

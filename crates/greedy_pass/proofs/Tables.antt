@@ -1,4 +1,4 @@
--- The arrays of the pass hold the tables of crates/greedy_pass, turn by turn, and at the end greedyWriting's plan.
+-- The arrays of the pass hold the tables of proofs/Process, turn by turn, and at the end greedyWriting's plan.
 -- Assumes nothing.
 use Prim.Native.Nat.{ℕ, suc, _+_, _-_, _≤_, _<_, max, zero-le}
 use mathlib.Core.Path.{_≡_, refl, sym, ap, _∙_}
@@ -12,11 +12,11 @@ use Rattle.counting.specs.Count.{largest, written}
 use Rattle.schedule.specs.Greedy.{greedyWriting}
 use Rattle.counting.proofs.Lists.{getD-zeros, le-largest, largest-met}
 use Rattle.header.specs.Limits.{maxCards, maxFrames}
 use Rattle.greedy_pass.proofs.Shown.{Top}
 use Rattle.greedy_pass.proofs.Process.{Saved, Ready}
 use Rattle.greedy_pass.proofs.Process as process
 use Rattle.counting.specs.Lists.{turned, takenAt}
-use Rattle.planner.specs.Pass.{Asked, Passed}
+use Rattle.greedy_pass.specs.Pass.{Asked, Passed}
 use Rattle.counting.proofs.Turned.{taken-lt, taken-apart, length-turned, turned-turned, getD-turned}
 
 -- the cycle of the frame taken i-th, and an entry of an array

@@ -1,16 +1,16 @@
--- What the functions behind `plan` ask for and leave.
+-- What the pass asks for, and what it leaves.
 -- Assumes nothing.
-use Prim.Native.Nat.{ℕ, suc, _-_, _≤_, _<_}
+use Prim.Native.Nat.{ℕ, _≤_, _<_}
 use mathlib.Core.Path.{_≡_}
-use mathlib.Core.Bool.{Bool, true, false}
-use mathlib.Core.List.{List, _++_, map, reverse}
-use lib.ListN.{length, take, drop}
+use mathlib.Core.Bool.{Bool}
+use mathlib.Core.List.{List, map}
+use lib.ListN.{length}
 use Rattle.counting.specs.Count.{written}
 use Rattle.counting.specs.Frames.{cardOf}
 use Rattle.counting.specs.Lists.{turned}
-use Rattle.schedule.specs.Greedy.{Plan, saveAndKeep, greedyWriting}
+use Rattle.schedule.specs.Greedy.{saveAndKeep, greedyWriting}
 use Rattle.header.specs.Limits.{maxCards, maxFrames}
 use Rattle.greedy_pass.specs.AsOf.{asOf}
 
 -- a list within the limits, and a buffer with room for its plan
 pub record Asked (m : ℕ) (cards out : List ℕ) : Type 0 where
@@ -18,11 +18,6 @@ pub record Asked (m : ℕ) (cards out : List ℕ) : Type 0 where
   pub few : length cards ≤ maxFrames
   pub each-card : (i : ℕ) → i < length cards → cardOf cards i < maxCards
   pub room : length cards ≤ length out
-
--- a plan is written over the front of `before`, and its T answered
-pub record Filled (plan : Plan) (before after : List ℕ) (T : ℕ) : Type 0 where
-  pub buffer : after ≡ written (plan .cycles) before
-  pub length-is : T ≡ plan .T
 
 -- a pass has written greedyWriting's cycles over the front of `before`; so many cycles are made when the last frame has entered, and in all
 pub record Passed (m : ℕ) (back : Bool) (cards before after : List ℕ) (made all : ℕ) : Type 0 where
