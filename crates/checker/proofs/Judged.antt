@@ -20,7 +20,8 @@ use Rattle.schedule.specs.Verdict as theory
 use Rattle.schedule.proofs.Exact.{Faultless, by-fault, judged-no-cycle, judged-shared, judged-overfull, judged-faultless, valid-correct, otherwise}
 use Rattle.header.specs.Limits.{maxCards}
 use Rattle.checker.specs.Check.{atFault, answerOf}
-use Rattle.checker.specs.Parts.{Checking, NoneAfter, Roomy, backlogOf, isValid, completed, frameVerdict, firstFault}
+use Rattle.pool_counts.specs.Counts.{backlogOf}
+use Rattle.checker.specs.Parts.{Checking, NoneAfter, Roomy, isValid, completed, frameVerdict, firstFault}
 use Rattle.checker.specs.declared.Verdict.{Verdict}
 use Rattle.checker.specs.declared.Verdict.the-variants.{Valid}
 
@@ -59,13 +60,6 @@ completed-valid v T peak e = rw e
 
 pub completed-fault : (v : Verdict) (T peak : ℕ) → isValid v ≡ false → v ≡ completed v T peak
 completed-fault v T peak e = rw e
-
--- the two kinds of count
-pub backlog-save : (save : Bool) (cycles : List ℕ) (i : ℕ) → save ≡ true → oBacklog cycles i ≡ backlogOf save cycles i
-backlog-save save cycles i e = rw e
-
-pub backlog-read : (save : Bool) (cycles : List ℕ) (i : ℕ) → save ≡ false → iBacklog cycles i ≡ backlogOf save cycles i
-backlog-read save cycles i e = rw e
 
 pub not-overfull : (save : Bool) (m : ℕ) (cycles : List ℕ) (i : ℕ) → Roomy save m cycles → i < length cycles
     → false ≡ leb m (backlogOf save cycles i)

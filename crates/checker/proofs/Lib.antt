@@ -4,9 +4,5 @@ pub mod Numbers
 pub mod Accepts
 pub mod Answers
 pub mod Whole
-pub mod Counting
-pub mod Adding
-pub mod Turns
-pub mod Most
 pub mod Sharing
 pub mod Judged

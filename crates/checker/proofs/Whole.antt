@@ -20,13 +20,14 @@ use Rattle.schedule.proofs.Peak.{peak-closed}
 use Rattle.schedule.proofs.Exact.{valid-correct, otherwise}
 use Rattle.header.specs.Limits.{maxFrames}
 use Rattle.checker.specs.Check.{answerOf, verdictOn}
-use Rattle.checker.specs.Parts.{Checking, Roomy, backlogOf, places, Zeroed, Low, Bounds, mostOf, isValid, completed, firstFault}
+use Rattle.pool_counts.specs.Counts.{backlogOf, tableLength, Zeroed, Low, Bounds, mostOf}
+use Rattle.checker.specs.Parts.{Checking, Roomy, isValid, completed, firstFault}
 use Rattle.checker.specs.declared.Verdict.{Verdict}
 use Rattle.checker.specs.declared.Verdict.the-variants.{Valid}
 use Rattle.checker.proofs.Judged.{clear, fault-not-valid, completed-valid, completed-fault, completed-verdict}
 
-pub zeroed : Zeroed (replicate places 0)
-zeroed = record { long = length-replicate {A = ℕ} places 0; zeros = getD-zeros places }
+pub zeroed : Zeroed (replicate tableLength 0)
+zeroed = record { long = length-replicate {A = ℕ} tableLength 0; zeros = getD-zeros tableLength }
 
 -- no pool is overfull where the largest count is below m
 pub roomy-read : {m b : ℕ} {cycles : List ℕ} → b ≡ mostOf iBacklog cycles → ltb b m ≡ true → Roomy false m cycles

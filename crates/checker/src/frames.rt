@@ -6,9 +6,9 @@ ghost use lib.ListN.{length};
 ghost use lib.Dec.{leb};
 ghost use Rattle.header.specs.Limits.{maxFrames};
 ghost use Rattle.schedule.specs.Verdict.{shares};
-ghost use Rattle.checker.specs.Parts.{Checking, NoneAfter, Roomy, backlogOf, isValid, frameVerdict, firstFault};
+ghost use Rattle.pool_counts.specs.Counts.{backlogOf};
+ghost use Rattle.checker.specs.Parts.{Checking, NoneAfter, Roomy, isValid, frameVerdict, firstFault};
 use crate::Verdict;
-use crate::backlog;
 use counting::Cycle;
 use counting::Position;
 
@@ -51,7 +51,7 @@ fn overfull(save: bool, roomy: bool, plan: &[u16], m: u16, i: usize) -> bool
     if roomy {
         return false;
     }
-    m <= backlog::backlog(save, plan, i)
+    m <= pool_counts::backlog::backlog(save, plan, i)
 }
 
 // The verdict on frame i; a valid one has no T and no peak yet.

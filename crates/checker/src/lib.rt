@@ -7,10 +7,7 @@ ghost use Rattle.checker.specs.Check.{checkOf};
 ghost use Rattle.checker.specs.Numbers.{numbersOf};
 ghost use Rattle.checker.specs.Exact.{Exact};
 
-mod backlog;
-mod below;
 mod frames;
-mod peak;
 mod verdicts;
 
 use counting::Cycle;

@@ -7,9 +7,7 @@ ghost use Rattle.header.specs.Limits.{maxFrames};
 ghost use Rattle.checker.specs.Check.{answerOf, verdictOn};
 ghost use Rattle.checker.specs.Parts.{Checking, completed};
 use crate::Verdict;
-use crate::below;
 use crate::frames;
-use crate::peak;
 use counting::Cycle;
 use header::limits;
 
@@ -30,8 +28,8 @@ fn verdict_on_read(cards: &[u8], plan: &[u16], m: u16, top: Cycle) -> Verdict
     ensures { λ r. ⌜ r ≡ answerOf (verdictOn false m (now (cards .entry)) (now (plan .entry))) ⌝ }
 {
     let mut table = [0u16; 4098];
-    below::fill(plan, top, &mut table);
-    let most = below::most_of_read(plan, top, &table);
+    pool_counts::below::fill(plan, top, &mut table);
+    let most = pool_counts::below::most_of_read(plan, top, &table);
     let v = frames::first_fault(false, most.backlog < m, cards, plan, m);
     complete(v, top, most.before)
 }
@@ -41,8 +39,8 @@ fn verdict_on_save(cards: &[u8], plan: &[u16], m: u16, top: Cycle) -> Verdict
     ensures { λ r. ⌜ r ≡ answerOf (verdictOn true m (now (cards .entry)) (now (plan .entry))) ⌝ }
 {
     let mut table = [0u16; 4098];
-    below::fill(plan, top, &mut table);
-    let most = below::most_of_save(plan, top, &table);
+    pool_counts::below::fill(plan, top, &mut table);
+    let most = pool_counts::below::most_of_save(plan, top, &table);
     let v = frames::first_fault(true, most < m, cards, plan, m);
     complete(v, top, 0)
 }
@@ -59,7 +57,7 @@ fn verdict_on_late(save: bool, cards: &[u8], plan: &[u16], m: u16, top: Cycle) -
     if save {
         return Verdict::Valid(top, 0);
     }
-    Verdict::Valid(top, peak::counted(plan))
+    Verdict::Valid(top, pool_counts::peak::counted(plan))
 }
 
 pub(crate) fn verdict(save: bool, cards: &[u8], plan: &[u16], m: u16) -> Verdict

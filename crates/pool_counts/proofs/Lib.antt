@@ -1,0 +1,4 @@
+pub mod Turns
+pub mod Most
+pub mod Adding
+pub mod Counting
