@@ -14,8 +14,9 @@ use Rattle.schedule.specs.Dock.{readFrame}
 use Rattle.schedule.specs.Drive.{readsOf}
 use Rattle.counting.proofs.Lists.{le-largest}
 use Rattle.header.specs.Limits.{maxFrames}
-use Rattle.plan_run.specs.declared.track.Progress.{Progress}
-use Rattle.plan_run.specs.Progress.{Tracked, ReadsMade}
+use Rattle.run_progress.specs.declared.Progress.{Progress}
+use Rattle.run_progress.specs.Progress.{Tracked}
+use Rattle.plan_run.specs.Cycles.{ReadsMade}
 use Rattle.plan_run.specs.Chain.{heads, nowhere, Small, Unlinked, From, Chains}
 use Rattle.plan_run.proofs.Cycles.{reads-none, reads-next}
 

@@ -12,10 +12,11 @@ use Rattle.schedule.specs.Schedule.{cycleOf}
 use Rattle.schedule.specs.Dock.{Step, readFrame, endCycle, emptyDock, run}
 use Rattle.schedule.specs.Drive.{readsOf, stepsTo}
 use Rattle.schedule.proofs.Peak.{read-ends-none}
-use Rattle.plan_run.specs.declared.track.Progress.{Progress}
+use Rattle.run_progress.specs.declared.Progress.{Progress}
 use Rattle.dock.specs.State.{mostCycles}
-use Rattle.plan_run.specs.Progress.{lastCycle, Tracked, Reached, readsTo, ReadsMade, CyclesMade, NoneBetween, Next}
-use Rattle.plan_run.proofs.Tracked.{run-snoc, step-counted}
+use Rattle.run_progress.specs.Progress.{Tracked}
+use Rattle.plan_run.specs.Cycles.{lastCycle, Reached, readsTo, ReadsMade, CyclesMade, NoneBetween, Next}
+use Rattle.run_progress.proofs.Tracked.{run-snoc, step-counted}
 
 module _ {m : ℕ} {cards : List ℕ} {steps : List Step} {t : ℕ} {p : Progress} {memory : List ℕ} (v : Reached m cards steps t p memory) where
   module _ (low : t < mostCycles) where

@@ -21,11 +21,12 @@ use Rattle.plan_run.specs.declared.Outcome.{Outcome}
 use Rattle.plan_run.specs.declared.Outcome.the-variants.{Complete}
 use Rattle.plan_run.specs.declared.Answer.{Answer}
 use Rattle.plan_run.specs.declared.Answer.the-variants.{Ran, Refused}
-use Rattle.plan_run.specs.declared.track.Progress.{Progress}
+use Rattle.run_progress.specs.declared.Progress.{Progress}
 use Rattle.dock.proofs.Starting.{empty-shows}
 use Rattle.plan_run.specs.Numbers.{numbersOf}
 use Rattle.plan_run.specs.Run.{outcomeOf, runOf, ranOf}
-use Rattle.plan_run.specs.Progress.{lastCycle, Tracks, Reached, CyclesMade, atStart, answered}
+use Rattle.run_progress.specs.Progress.{Tracks, atStart}
+use Rattle.plan_run.specs.Cycles.{lastCycle, Reached, CyclesMade, answered}
 
 pub outcome-complete :
     {done : Bool} {n : ℕ} {c : Cycle} → done ≡ true → c .0 ≡ n → Complete c ≡ outcomeOf (cond done (complete n) unfinished)

@@ -1,4 +1,4 @@
 pub mod Numbers
 pub mod Run
-pub mod Progress
+pub mod Cycles
 pub mod Chain

@@ -5,15 +5,14 @@ ghost use Prim.Native.Nat.{_≤_};
 ghost use lib.ListN.{length};
 ghost use Rattle.schedule.specs.Schedule.{cyclesIn};
 ghost use Rattle.header.specs.Limits.{maxFrames};
-ghost use Rattle.plan_run.specs.Progress.{ReadsMade, CyclesMade};
+ghost use Rattle.plan_run.specs.Cycles.{ReadsMade, CyclesMade};
 ghost use Rattle.plan_run.specs.Chain.{Small, Unlinked, Chains};
 use crate::cycle;
-use crate::track;
-use crate::track::Progress;
 use counting::Cycle;
 use counting::Position;
 use dock::Step;
 use header::limits;
+use run_progress::Progress;
 
 // Stands for no position.
 const NONE: u16 = 65535;
@@ -48,7 +47,7 @@ fn reads(
     let c = cycle.0;
     let mut x = first[c as usize];
     while x != NONE {
-        q = track::track(q, Step::Read(Position(x)), memory);
+        q = run_progress::track(q, Step::Read(Position(x)), memory);
         x = after[x as usize];
     }
     q
@@ -72,7 +71,7 @@ fn linked_to(
     while t < end {
         t += 1;
         q = reads(q, plan, Cycle(t), first, after, memory);
-        q = track::track(q, Step::End, memory);
+        q = run_progress::track(q, Step::End, memory);
     }
     q
 }

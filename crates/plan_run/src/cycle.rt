@@ -3,12 +3,11 @@ ghost use mathlib.Core.Path.{_≡_};
 ghost use Prim.Native.Nat.{_-_, _≤_, _<_};
 ghost use lib.ListN.{length};
 ghost use Rattle.header.specs.Limits.{maxFrames};
-ghost use Rattle.plan_run.specs.Progress.{ReadsMade, CyclesMade, Next};
-use crate::track;
-use crate::track::Progress;
+ghost use Rattle.plan_run.specs.Cycles.{ReadsMade, CyclesMade, Next};
 use counting::Cycle;
 use counting::Position;
 use dock::Step;
+use run_progress::Progress;
 
 fn position(i: usize) -> Position
     requires { ⌜ i ≤ maxFrames ⌝ }
@@ -29,7 +28,7 @@ fn reads(p: Progress, plan: &[u16], cycle: Cycle, memory: &mut [u8]) -> Progress
         let at = i;
         i += 1;
         if plan[at] == c {
-            q = track::track(q, Step::Read(position(at)), memory);
+            q = run_progress::track(q, Step::Read(position(at)), memory);
         }
     }
     q
@@ -65,10 +64,10 @@ fn one_cycle(p: Progress, plan: &[u16], cycle: Cycle, next: Cycle, memory: &mut 
     ensures { λ r. ⌜ CyclesMade (now (plan .entry)) (cycle .0 - 1) (cycle .0) p (now (memory .entry)) r (now (memory .exit)) ⌝ }
 {
     if cycle.0 < next.0 {
-        return track::track(p, Step::End, memory);
+        return run_progress::track(p, Step::End, memory);
     }
     let read = reads(p, plan, cycle, memory);
-    track::track(read, Step::End, memory)
+    run_progress::track(read, Step::End, memory)
 }
 
 // The first cycle after t that a frame has, where `next` is that of the cycle before.

@@ -6,9 +6,9 @@ ghost use Rattle.ticket.specs.Grounds.{Fits};
 ghost use Rattle.plan_run.specs.Numbers.{numbersOf};
 ghost use Rattle.plan_run.specs.Run.{ranOf};
 
+mod answers;
 mod chain;
 mod cycle;
-mod track;
 
 use counting::Cycle;
 use header::Header;
@@ -43,10 +43,10 @@ fn run_list(h: Header, plan: &[u16], memory: &mut [u8]) -> Answer
     if plan.len() != n {
         return Answer::Refused(11);
     }
-    let p = track::at_start(h.frames, h.pool);
+    let p = run_progress::at_start(h.frames, h.pool);
     let last = schedule::cycles_in(plan);
     let q = chain::all_cycles(p, plan, last, memory);
-    Answer::Ran(track::answer(q))
+    Answer::Ran(answers::answer(q))
 }
 
 // Runs a plan on the dock of a ticket's list and pool, whatever the ticket's mode.

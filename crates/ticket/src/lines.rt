@@ -60,7 +60,11 @@ pub(crate) fn read_lines(value: &[u8; 256], s: &[u8], cards: u8, frames: u16, ca
     let whole = s.len() / 3;
     let passing = read_passing(value, s, cards, fewer(whole, n), card);
     if passing < n {
-        return if text::read::is_line(value, s, 3 * passing, 2) { 8 } else { 7 };
+        return if text::read::is_line(value, s, 3 * passing, 2) {
+            8
+        } else {
+            7
+        };
     }
     if 3 * n < s.len() {
         return 9;

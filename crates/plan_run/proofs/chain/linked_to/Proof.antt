@@ -5,7 +5,7 @@ use native.Mathlib.Omega.{arith}
 use Prim.Native.Nat.{_-_, _≤_}
 use mathlib.Core.Path.{_≡_, refl}
 use lib.ListN.{length}
-use Rattle.plan_run.specs.Progress.{CyclesMade}
+use Rattle.plan_run.specs.Cycles.{CyclesMade}
 use Rattle.plan_run.proofs.Cycles.{cycle-ends, cycles-none, cycles-next}
 use Rattle.plan_run.proofs.chain.linked_to.Statement.{statement}
 use Rattle.plan_run.proofs.chain.linked_to.Tie as tie

@@ -4,7 +4,7 @@ use Prim.Native.Nat.{_≤_, _-_}
 use mathlib.Core.Path.{_≡_, refl}
 use native.Mathlib.Omega.{arith}
 use lib.ListN.{length}
-use Rattle.plan_run.specs.Progress.{Next, CyclesMade}
+use Rattle.plan_run.specs.Cycles.{Next, CyclesMade}
 use Rattle.plan_run.proofs.Cycles as cycles
 use borrow.Author.Needs.{needs}
 use Rattle.plan_run.proofs.cycle.cycles_to.Statement.{statement}

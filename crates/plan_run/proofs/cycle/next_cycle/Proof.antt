@@ -4,7 +4,7 @@ use Prim.Native.Nat.{_≤_, _<_, _-_}
 use mathlib.Core.Path.{_≡_}
 use native.Mathlib.Omega.{arith}
 use lib.ListN.{length}
-use Rattle.plan_run.specs.Progress.{lastCycle, NoneBetween}
+use Rattle.plan_run.specs.Cycles.{lastCycle, NoneBetween}
 use Rattle.plan_run.proofs.Cycles.{none-between-next}
 use borrow.Author.Needs.{needs}
 use Rattle.plan_run.proofs.cycle.next_cycle.Statement.{statement}

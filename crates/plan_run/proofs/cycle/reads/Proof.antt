@@ -4,7 +4,7 @@ use mathlib.Core.Path.{_≡_, refl}
 use Prim.Native.Nat.{_≤_, _-_}
 use native.Mathlib.Omega.{arith}
 use lib.ListN.{length}
-use Rattle.plan_run.specs.Progress.{ReadsMade}
+use Rattle.plan_run.specs.Cycles.{ReadsMade}
 use Rattle.plan_run.proofs.Cycles as cycles
 use borrow.Author.Needs.{needs}
 use Rattle.plan_run.proofs.cycle.reads.Statement.{statement}

@@ -1,8 +1,8 @@
--- `plan_run::track::at_start` meets its contract.
+-- `run_progress::at_start` meets its contract.
 -- Assumes nothing.
 use borrow.Author.Needs.{needs}
-use Rattle.plan_run.proofs.track.at_start.Statement.{statement}
-use Rattle.plan_run.proofs.track.at_start.Tie as tie
+use Rattle.run_progress.proofs.at_start.Statement.{statement}
+use Rattle.run_progress.proofs.at_start.Tie as tie
 
 empty-requires : tie.Need-empty-requires
 empty-requires c κs = search needs

@@ -1,10 +1,10 @@
--- `plan_run::track::track` meets its contract.
+-- `run_progress::track` meets its contract.
 -- Assumes nothing.
 use mathlib.Core.Path.{refl}
-use Rattle.plan_run.proofs.Tracked.{noted-tracked}
+use Rattle.run_progress.proofs.Tracked.{noted-tracked}
 use borrow.Author.Needs.{needs}
-use Rattle.plan_run.proofs.track.track.Statement.{statement}
-use Rattle.plan_run.proofs.track.track.Tie as tie
+use Rattle.run_progress.proofs.track.Statement.{statement}
+use Rattle.run_progress.proofs.track.Tie as tie
 
 drive-requires : tie.Need-drive-requires
 drive-requires c κs = search needs

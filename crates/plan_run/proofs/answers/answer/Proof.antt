@@ -1,9 +1,9 @@
--- `plan_run::track::answer` meets its contract.
+-- `plan_run::answers::answer` meets its contract.
 -- Assumes nothing.
 use Rattle.plan_run.proofs.Runs.{answer-given}
 use borrow.Author.Needs.{needs}
-use Rattle.plan_run.proofs.track.answer.Statement.{statement}
-use Rattle.plan_run.proofs.track.answer.Tie as tie
+use Rattle.plan_run.proofs.answers.answer.Statement.{statement}
+use Rattle.plan_run.proofs.answers.answer.Tie as tie
 
 cycle-of-requires : tie.Need-cycle-of-requires
 cycle-of-requires c κs = search needs

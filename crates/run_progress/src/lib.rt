@@ -1,23 +1,17 @@
 // A run followed step by step: the dock, whether all frames are handed over, the cycles needed for that, and the peak.
 ghost use mathlib.Core.Path.{_≡_};
 ghost use mathlib.Core.Bool.{cond};
-ghost use Prim.Native.Nat.{_≤_};
-ghost use Rattle.schedule.specs.Drive.{complete, unfinished};
 ghost use Rattle.dock.specs.State.{stepOf};
-ghost use Rattle.plan_run.specs.Run.{outcomeOf};
-ghost use Rattle.plan_run.specs.Progress.{Tracked, lastCycle, atStart, answered};
-use crate::Outcome;
-use crate::Run;
-use counting::Cycle;
+ghost use Rattle.run_progress.specs.Progress.{Tracked, atStart};
 use dock::Dock;
 use dock::Step;
 
 // The dock after some steps; whether they have handed all frames over, the cycles needed for that, 0 before it; and the peak.
-pub(crate) struct Progress {
-    pub(crate) dock: Dock,
-    pub(crate) complete: bool,
-    pub(crate) needed: u32,
-    pub(crate) peak: u16,
+pub struct Progress {
+    pub dock: Dock,
+    pub complete: bool,
+    pub needed: u32,
+    pub peak: u16,
 }
 
 // The frames held after a step, if it has ended a cycle; else 0.
@@ -38,7 +32,7 @@ fn needed_after(complete: bool, needed: u32, all: bool, ended: u32) -> u32
 }
 
 // One step, with the outcome and the peak kept. Cycles needed are counted up to 4,294,967,295, as the dock counts those ended.
-pub(crate) fn track(p: Progress, step: Step, memory: &mut [u8]) -> Progress
+pub fn track(p: Progress, step: Step, memory: &mut [u8]) -> Progress
     ensures { λ r. ⌜ Tracked p (stepOf step) (now (memory .entry)) r (now (memory .exit)) ⌝ }
 {
     let before = p.dock;
@@ -55,7 +49,7 @@ pub(crate) fn track(p: Progress, step: Step, memory: &mut [u8]) -> Progress
 }
 
 // Before the first step: with no frames a run is complete from the start.
-pub(crate) fn at_start(frames: u16, pool: u16) -> Progress
+pub fn at_start(frames: u16, pool: u16) -> Progress
     ensures { λ r. ⌜ r ≡ atStart pool frames ⌝ }
 {
     Progress {
@@ -63,37 +57,5 @@ pub(crate) fn at_start(frames: u16, pool: u16) -> Progress
         complete: frames == 0,
         needed: 0,
         peak: 0,
-    }
-}
-
-fn cycle_of(n: u32) -> Cycle
-    requires { ⌜ n ≤ lastCycle ⌝ }
-    ensures { λ r. ⌜ r .0 ≡ n ⌝ }
-{
-    Cycle(n as u16)
-}
-
-fn outcome_of(done: bool, needed: u32) -> Outcome
-    requires { ⌜ needed ≤ lastCycle ⌝ }
-    ensures { λ r. ⌜ r ≡ outcomeOf (cond done (complete needed) unfinished) ⌝ }
-{
-    if done {
-        Outcome::Complete(cycle_of(needed))
-    } else {
-        Outcome::Unfinished
-    }
-}
-
-pub(crate) fn answer(p: Progress) -> Run
-    requires { ⌜ (p .dock .ended ≤ lastCycle) × (p .needed ≤ lastCycle) ⌝ }
-    ensures { λ r. ⌜ r ≡ answered p ⌝ }
-{
-    let dock = p.dock;
-    Run {
-        broken: dock.broken,
-        delivered: dock.delivered,
-        ended: cycle_of(dock.ended),
-        outcome: outcome_of(p.complete, p.needed),
-        peak: p.peak,
     }
 }

@@ -1,9 +1,9 @@
--- `plan_run::track::outcome_of` meets its contract.
+-- `plan_run::answers::outcome_of` meets its contract.
 -- Assumes nothing.
 use Rattle.plan_run.proofs.Runs.{outcome-complete}
 use borrow.Author.Needs.{needs}
-use Rattle.plan_run.proofs.track.outcome_of.Statement.{statement}
-use Rattle.plan_run.proofs.track.outcome_of.Tie as tie
+use Rattle.plan_run.proofs.answers.outcome_of.Statement.{statement}
+use Rattle.plan_run.proofs.answers.outcome_of.Tie as tie
 
 cycle-of-requires : tie.Need-cycle-of-requires
 cycle-of-requires c κs = search needs

@@ -11,10 +11,10 @@ use Rattle.schedule.specs.Drive.{Outcome, complete, unfinished, allDelivered, o
 use Rattle.schedule.proofs.Outcome.{run-append}
 use Rattle.dock.specs.declared.Dock.{Dock}
 use Rattle.dock.specs.declared.Step.{Step as CodeStep}
-use Rattle.plan_run.specs.declared.track.Progress.{Progress}
+use Rattle.run_progress.specs.declared.Progress.{Progress}
 use Rattle.dock.specs.State.{ShowsDock, stepOf, mostCycles}
 use Rattle.dock.specs.Drive.{Follows}
-use Rattle.plan_run.specs.Progress.{Tracks, Tracked}
+use Rattle.run_progress.specs.Progress.{Tracks, Tracked}
 
 -- the first of two outcomes that is complete
 abbrev orLater : Outcome → Outcome → Outcome

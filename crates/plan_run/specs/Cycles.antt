@@ -1,36 +1,21 @@
--- A run of the dock followed step by step: what is kept beside the dock, and what one step, and the cycles of a plan, do to it.
+-- The cycles of a plan, made one after the other: what each does to the progress of a run, and what the run then answers.
 -- Assumes nothing.
 use Prim.Native.Nat.{ℕ, _-_, _≤_, _<_}
 use mathlib.Core.Path.{_≡_}
-use mathlib.Core.Bool.{false, cond}
-use mathlib.Core.List.{List, [], _∷_, _++_}
-use lib.Dec.{eqb}
+use mathlib.Core.Bool.{cond}
+use mathlib.Core.List.{List, _++_}
 use lib.ListN.{length}
 use Rattle.schedule.specs.Schedule.{cycleOf}
 use Rattle.schedule.specs.Dock.{Step as ModelStep, emptyDock, run}
-use Rattle.schedule.specs.Drive.{complete, unfinished, outcome, peak, readsOf, stepsTo}
-use Rattle.dock.specs.State.{ShowsDock, mostCycles, newDock}
+use Rattle.schedule.specs.Drive.{complete, unfinished, readsOf, stepsTo}
 use Rattle.plan_run.specs.Run.{outcomeOf}
 use Rattle.plan_run.specs.declared.Run.{Run}
-use Rattle.plan_run.specs.declared.track.Progress.{Progress}
+use Rattle.run_progress.specs.declared.Progress.{Progress}
+use Rattle.run_progress.specs.Progress.{Tracks}
 
 -- the last cycle that a plan can have: a plan's cycles have 16 bits
 abbrev pub lastCycle : ℕ
 lastCycle = 65535
-
--- After these steps from the empty dock: the dock, the outcome so far, and the peak so far.
-pub record Tracks (m : ℕ) (cards : List ℕ) (steps : List ModelStep) (p : Progress) (memory : List ℕ) : Type 0 where
-  pub shows : ShowsDock m cards (run m cards steps emptyDock) (p .dock) memory
-  pub outcome-is : outcome m cards steps emptyDock ≡ cond (p .complete) (complete (p .needed)) unfinished
-  pub none-needed : p .complete ≡ false → p .needed ≡ 0
-  pub needed-few : p .needed ≤ run m cards steps emptyDock .ended
-  pub peak-is : p .peak ≡ peak m cards steps emptyDock
-
--- What one step more does, while the record can count one cycle more.
-pub record Tracked (p : Progress) (step : ModelStep) (before : List ℕ) (r : Progress) (after : List ℕ) : Type 0 where
-  pub follows :
-      (m : ℕ) (cards : List ℕ) (steps : List ModelStep) → Tracks m cards steps p before → run m cards steps emptyDock .ended < mostCycles
-      → Tracks m cards (steps ++ (step ∷ [])) r after
 
 -- the steps of a plan before cycle c, and of cycle c the reads of the first k frames
 abbrev pub readsTo : List ℕ → ℕ → ℕ → List ModelStep
@@ -58,10 +43,6 @@ NoneBetween cycles n t next = (i : ℕ) → i < n → t < cycleOf cycles i → n
 pub record Next (cycles : List ℕ) (t next : ℕ) : Type 0 where
   pub none-between : NoneBetween cycles (length cycles) t next
   pub after : t < lastCycle → t < next
-
--- the progress of an empty dock; with no frames a run is complete from the start
-abbrev pub atStart : ℕ → ℕ → Progress
-atStart m frames = record { dock = newDock m frames; complete = eqb frames 0; needed = 0; peak = 0 }
 
 -- what a run answers
 abbrev pub answered : Progress → Run
