@@ -14,7 +14,7 @@ use borrow.Author.Tests.{ne-eqb, lt-leb}
 use lib.ListN.{length, getD, set, replicate, length-replicate, length-set}
 use lib.Seq.{getD-set-same, getD-set-other}
 use Rattle.counting.specs.Frames.{cardOf}
-use Rattle.schedule.specs.Schedule.{cycleOf, oBacklog, iBacklog, Correct}
+use Rattle.schedule.specs.Schedule.{cycleOf, Correct}
 use Rattle.schedule.specs.Verdict.{Fault, noCycle, sharedCard, overfull, valid, shares, judge, judgeFrom}
 use Rattle.schedule.specs.Verdict as theory
 use Rattle.schedule.proofs.Exact.{Faultless, by-fault, judged-no-cycle, judged-shared, judged-overfull, judged-faultless, valid-correct, otherwise}

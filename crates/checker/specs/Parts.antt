@@ -1,14 +1,12 @@
 -- What the functions behind `check` ask for and answer.
 -- Assumes nothing.
-use Prim.Native.Nat.{ℕ, suc, _+_, _≤_, _<_}
+use Prim.Native.Nat.{ℕ, _≤_, _<_}
 use mathlib.Core.Path.{_≡_}
-use mathlib.Core.Bool.{Bool, true, false, _&&_, cond}
+use mathlib.Core.Bool.{Bool, true, false, cond}
 use mathlib.Core.List.{List}
-use lib.Dec.{eqb, leb, ltb}
-use lib.ListN.{length, getD}
-use Rattle.counting.specs.Count.{howMany, tabulate, largest}
+use lib.ListN.{length}
 use Rattle.counting.specs.Frames.{cardOf}
-use Rattle.schedule.specs.Schedule.{cycleOf, oBacklog, iBacklog}
+use Rattle.schedule.specs.Schedule.{cycleOf}
 use Rattle.schedule.specs.Verdict.{valid, judge, judgeFrom}
 use Rattle.header.specs.Limits.{maxCards, maxFrames}
 use Rattle.pool_counts.specs.Counts.{backlogOf}

@@ -1,7 +1,7 @@
 -- A loop that replaces the first elements of a list, one after the other, by f of them.
 -- Assumes nothing.
 use Prim.Native.Nat.{ℕ, zero, suc, _+_, _<_}
-use mathlib.Core.Path.{_≡_, refl, sym, ap, _∙_}
+use mathlib.Core.Path.{_≡_, refl, ap, _∙_}
 use mathlib.Core.List.{List, [], _∷_}
 use native.Mathlib.Omega.{arith}
 use native.Mathlib.Numerals.{add-one}
@@ -25,13 +25,6 @@ set-onFirst f zero (x ∷ l) h = refl
 set-onFirst f (suc i) [] h = absurd (omega arith)
 set-onFirst f (suc i) (x ∷ l) h = ap (λ y. f x ∷ y) (set-onFirst f i l (omega arith))
 
--- an element that f does not change is left as it is
-same-onFirst : (f : ℕ → ℕ) (i : ℕ) (l : List ℕ) → f (getD l i 0) ≡ getD l i 0 → onFirst f i l ≡ onFirst f (suc i) l
-same-onFirst f zero [] h = refl
-same-onFirst f zero (x ∷ l) h = ap (λ y. y ∷ l) (sym h)
-same-onFirst f (suc i) [] h = refl
-same-onFirst f (suc i) (x ∷ l) h = ap (λ y. f x ∷ y) (same-onFirst f i l h)
-
 -- the loop has replaced the first i elements of `before`
 pub record Replaced (f : ℕ → ℕ) (i : ℕ) (before now : List ℕ) : Type 0 where
   pub so-far : now ≡ onFirst f i before
@@ -48,6 +41,3 @@ module _ {f : ℕ → ℕ} {i : ℕ} {before now : List ℕ} (v : Replaced f i b
 
   pub replaced-next : (x : ℕ) → i < length before → x ≡ f (getD now i 0) → Replaced f (i + 1) before (set now i x)
   replaced-next x h e = record { so-far = rw (e, next-as-before, add-one, v .so-far) (set-onFirst f i before h) }
-
-  pub replaced-same : f (getD now i 0) ≡ getD now i 0 → Replaced f (i + 1) before now
-  replaced-same e = record { so-far = rw (add-one, v .so-far) (same-onFirst f i before (rw next-as-before at e)) }

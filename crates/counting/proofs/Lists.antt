@@ -9,7 +9,7 @@ use native.Mathlib.Nat.{sub-zero, zero-sub, suc-sub-suc, zero-add, add-zero, suc
 use native.Mathlib.Decide.{decLt, ℕ-discrete}
 use lib.ListN.{length, getD, take, drop, set, replicate, length-drop, length-set, length-append, length-reverse, List·getD-append, length-take}
 use lib.Seq.{take-all, take-suc, getD-at, drop-cons, set-at, ext-getD, getD-set-same, getD-set-other, take-add, sets, take-nil, drop-drop, getD-drop}
-use lib.Dec.{ltb, lt→ltb}
+use lib.Dec.{ltb}
 use lib.Seq.{length-sets}
 use borrow.Author.Tests.{lt-ltb, le-ltb}
 use Rattle.counting.specs.Count.{tabulate, largest, written}

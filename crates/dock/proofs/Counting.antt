@@ -10,7 +10,7 @@ use borrow.Author.Tests.{eq-eqb, ne-eqb, le-leb, lt-leb}
 use Rattle.counting.specs.Count.{bit, howMany}
 use Rattle.schedule.specs.Dock.{put}
 use Rattle.counting.proofs.Bits.{by-cases}
-use Rattle.counting.proofs.Sums.{sum-cong, sum-term-le, howMany-le}
+use Rattle.counting.proofs.Sums.{sum-cong}
 
 -- a number not below n does not count
 put-past : (n i : ℕ) (t : ℕ → Bool) (b : Bool) → n ≤ i → howMany n (put t i b) ≡ howMany n t

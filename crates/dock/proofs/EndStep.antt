@@ -1,19 +1,18 @@
 -- The end of a cycle: what it makes of a record and its bytes shows the model's end of a cycle.
 -- Assumes nothing.
 use Prim.Native.Nat.{ℕ, zero, suc, _+_, _-_, _≤_, _<_}
-use mathlib.Core.Path.{_≡_, refl, sym, ap, _∙_}
-use mathlib.Core.Bool.{Bool, true, false, _&&_, cond, and-true, and-false}
+use mathlib.Core.Path.{_≡_, refl, ap, _∙_}
+use mathlib.Core.Bool.{Bool, true, false, _&&_, cond, and-true}
 use mathlib.Core.List.{List}
 use native.Mathlib.Omega.{arith}
 use native.Mathlib.Decide.{decLt}
 use lib.Dec.{leb}
-use lib.ListN.{length, getD, replicate, length-replicate, getD-replicate}
+use lib.ListN.{length, getD, length-replicate, getD-replicate}
 use borrow.Author.Tests.{le-leb, lt-leb, leb-true}
 use Rattle.counting.specs.Count.{howMany}
 use Rattle.counting.specs.Frames.{cardOf}
 use Rattle.schedule.specs.Dock.{endCycle, deliver, against, perform, Dock as ModelDock}
 use Rattle.counting.proofs.Bits.{by-cases, and-right}
-use Rattle.counting.proofs.Lists.{length-tabulate}
 use Rattle.schedule.proofs.Deliver.{deliver-within, deliver-from, deliver-held}
 use Rattle.header.specs.Limits.{maxCards}
 use Rattle.dock.specs.State.{ShowsDock, mark}

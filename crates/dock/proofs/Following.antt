@@ -1,15 +1,15 @@
 -- One step on a record and its bytes follows the model: the same rule, and the same dock shown afterwards.
 -- Assumes nothing.
 use Prim.Native.Nat.{ℕ}
-use mathlib.Core.Path.{_≡_, refl, sym, _∙_}
-use mathlib.Core.Bool.{Bool, true, false, _||_, cond, or-comm}
+use mathlib.Core.Path.{_≡_, refl, sym}
+use mathlib.Core.Bool.{Bool, true, false, _||_, cond}
 use mathlib.Core.List.{List}
 use lib.Dec.{leb}
 use lib.ListN.{getD}
 use borrow.Author.Tests.{leb-false}
 use Rattle.schedule.specs.Dock.{breakOff, against, perform, Dock as ModelDock}
 use Rattle.schedule.specs.Dock as model
-use Rattle.counting.proofs.Bits.{or-neither, or-first}
+use Rattle.counting.proofs.Bits.{or-first}
 use Rattle.dock.specs.State.{ShowsDock, stepOf}
 use Rattle.dock.specs.Records.{brokenOff}
 use Rattle.dock.specs.Drive.{cardIn, againstRules, recordMade, bytesMade, recordAfter, bytesAfter}

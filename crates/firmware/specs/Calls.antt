@@ -5,9 +5,7 @@ use Prim.Native.Nat.{ℕ}
 use mathlib.Core.Bool.{Bool}
 use mathlib.Core.List.{List, map}
 use lib.ListN.{length}
-use Rattle.header.specs.declared.Header.{Header}
 use Rattle.ticket.specs.Ticket.{parse, numbersIn, lineRefusalOf}
-use Rattle.ticket.specs.Print.{ticketText}
 use Rattle.planner.specs.Plan.{planOf, bufferAfter}
 use Rattle.planner.specs.Numbers.{numbersOf as numbersOfPlan}
 use Rattle.checker.specs.Check.{checkOf}

@@ -5,7 +5,6 @@ use Prim.Native.Nat.{ℕ}
 use mathlib.Core.Bool.{Bool, true, false}
 use mathlib.Core.List.{List, [], _∷_}
 use lib.ListN.{replicate}
-use Rattle.counting.specs.declared.Cycle.{Cycle}
 use Rattle.counting.specs.declared.Position.{Position}
 use Rattle.ticket.specs.Print.{ticketText}
 use Rattle.saver.specs.declared.Saver.{Saver}

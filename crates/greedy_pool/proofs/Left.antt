@@ -2,20 +2,20 @@
 -- Assumes nothing.
 use Prim.Native.Nat.{ℕ, zero, suc, _+_, _≤_, _<_}
 use mathlib.Core.Path.{_≡_, refl, sym, _∙_}
-use mathlib.Core.Bool.{Bool, true, false, not, cond}
-use mathlib.Core.List.{List, [], _∷_, _++_, append-nil}
+use mathlib.Core.Bool.{false, not, cond}
+use mathlib.Core.List.{List, [], _∷_}
 use native.Mathlib.Omega.{arith}
 use native.Mathlib.Nat.{add-zero}
 use native.Mathlib.Decide.{ℕ-discrete}
 use lib.Dec.{eqb}
 use lib.ListN.{length, getD, length-append}
 use borrow.Author.Tests.{eq-eqb, ne-eqb}
-use Rattle.counting.specs.Count.{bit, howMany}
+use Rattle.counting.specs.Count.{howMany}
 use Rattle.counting.specs.Frames.{cardOf}
 use Rattle.counting.proofs.Bits.{by-cases, bit-le-one}
 use Rattle.counting.proofs.Sums.{howMany-le}
 use Rattle.greedy_pool.specs.Pool.{none, isOldest, left, writes}
-use Rattle.counting.proofs.Snoc.{bound-snoc, kept-length, bound-kept}
+use Rattle.counting.proofs.Snoc.{kept-length, bound-kept}
 
 left-length : (c v : List ℕ) (n : ℕ) → length (left c v n) ≡ howMany n (λ i. not (isOldest c i))
 left-length c v zero = refl

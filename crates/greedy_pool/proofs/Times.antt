@@ -1,17 +1,15 @@
 -- How many times a position stands in a list: in one made of two, in one that a function gives, in the pool; and in a log.
 -- Assumes nothing.
-use Prim.Native.Nat.{ℕ, zero, suc, _+_, _≤_, _<_}
-use mathlib.Core.Path.{_≡_, refl, ap, _∙_}
-use mathlib.Core.Bool.{Bool, _&&_, and-true, and-false}
+use Prim.Native.Nat.{ℕ, zero, suc, _+_, _<_}
+use mathlib.Core.Path.{_≡_, refl, _∙_}
+use mathlib.Core.Bool.{_&&_, and-true, and-false}
 use mathlib.Core.List.{List, [], _∷_, _++_}
 use native.Mathlib.Omega.{arith}
-use native.Mathlib.Decide.{decLt}
-use lib.Dec.{eqb, eqb·zero-suc, eqb·suc-zero, eqb·suc-suc}
-use borrow.Author.Tests.{eq-eqb, ne-eqb}
+use lib.Dec.{eqb}
 use Rattle.counting.specs.Count.{bit, howMany, tabulate}
 use Rattle.schedule.specs.Greedy.{waits}
 use Rattle.counting.proofs.Bits.{by-cases}
-use Rattle.counting.proofs.Sums.{sum-cong, sum-zero, equal-one, one-at}
+use Rattle.counting.proofs.Sums.{one-at}
 use Rattle.greedy_pool.specs.Pool.{waitingAmong}
 use Rattle.greedy_pool.specs.Log.{times, timesIn}
 use Rattle.greedy_pool.proofs.Places.{waiting-more, waiting-same}

@@ -1,8 +1,8 @@
 -- The read plan of a ticket, run on its dock.
 -- Assumes nothing.
-use Prim.Native.Nat.{ℕ, zero, suc, _≤_, zero-le}
-use mathlib.Core.Path.{_≡_, refl, sym, ap, _∙_}
-use mathlib.Core.Bool.{false, cond}
+use Prim.Native.Nat.{ℕ, suc, _≤_, zero-le}
+use mathlib.Core.Path.{_≡_, refl, ap, _∙_}
+use mathlib.Core.Bool.{cond}
 use mathlib.Core.List.{List, [], _∷_}
 use native.Mathlib.Omega.{arith}
 use lib.Dec.{ltb}
@@ -11,7 +11,7 @@ use borrow.Author.Tests.{eq-eqb}
 use Rattle.schedule.specs.Schedule.{cyclesIn}
 use Rattle.schedule.specs.Greedy.{lazyPrefetching}
 use Rattle.schedule.specs.Dock.{Step, Dock, emptyDock, holding, step, run}
-use Rattle.schedule.specs.Drive.{complete, outcome, peak, stepsTo, stepsOf}
+use Rattle.schedule.specs.Drive.{complete, outcome, peak, stepsOf}
 use Rattle.schedule.specs.Demand.{Drives}
 use Rattle.counting.proofs.Bits.{by-test}
 use Rattle.schedule.proofs.Main.{read-correct, read-length, correct-drives}

@@ -1,13 +1,12 @@
 -- What a run answers, from the ticket's answer to the last cycle of the plan.
 -- Assumes nothing.
-use Prim.Native.Nat.{ℕ, zero, suc, _+_, _-_, _≤_, zero-le}
+use Prim.Native.Nat.{ℕ, _+_, _-_, _≤_, zero-le}
 use mathlib.Core.Path.{_≡_, refl, sym, ap, _∙_}
 use mathlib.Core.Bool.{Bool, true, cond}
 use mathlib.Core.List.{List, [], _++_}
 use native.Mathlib.Omega.{arith}
-use lib.Dec.{eqb, leb}
 use lib.ListN.{length, take, drop, take-append-drop}
-use borrow.Author.Tests.{eq-eqb, ne-eqb, lt-leb}
+use borrow.Author.Tests.{eq-eqb, ne-eqb}
 use Rattle.schedule.specs.Schedule.{cyclesIn}
 use Rattle.schedule.specs.Dock.{emptyDock, run}
 use Rattle.schedule.specs.Drive.{complete, unfinished, outcome, peak, stepsOf, stepsTo}

@@ -1,7 +1,6 @@
 -- The cycles of a plan, made one after the other: what each does to the progress of a run, and what the run then answers.
 -- Assumes nothing.
 use Prim.Native.Nat.{ℕ, _-_, _≤_, _<_}
-use mathlib.Core.Path.{_≡_}
 use mathlib.Core.Bool.{cond}
 use mathlib.Core.List.{List, _++_}
 use lib.ListN.{length}

@@ -1,22 +1,20 @@
 -- The largest counts of a plan: a frame that is not ahead of all earlier ones (a read), or behind all later ones (a save), has no larger
 -- count than one of them; and where it is, the table of cycles gives its count.
 -- Assumes nothing.
-use Prim.Native.Nat.{ℕ, zero, suc, _+_, _-_, _≤_, _<_, max}
-use mathlib.Core.Path.{_≡_, _∙_}
-use mathlib.Core.Bool.{Bool, _&&_}
+use Prim.Native.Nat.{ℕ, suc, _+_, _-_, _≤_, _<_}
+use mathlib.Core.Path.{_≡_}
+use mathlib.Core.Bool.{_&&_}
 use mathlib.Core.List.{List}
 use native.Mathlib.Omega.{arith}
-use native.Mathlib.Numerals.{add-one}
 use native.Mathlib.Decide.{decLe, decLt, ℕ-discrete}
 use lib.Dec.{leb, ltb}
 use lib.ListN.{length}
 use borrow.Author.Tests.{lt-ltb, le-ltb, lt-leb, le-leb, ltb-true, leb-true}
-use Rattle.counting.specs.Count.{bit, howMany, tabulate, largest}
+use Rattle.counting.specs.Count.{bit}
 use Rattle.schedule.specs.Schedule.{cycleOf, oBacklog, iBacklog}
 use Rattle.schedule.specs.Closed.{readBefore}
 use Rattle.counting.proofs.Bits.{and-left, and-right, bit-mono}
-use Rattle.counting.proofs.Sums.{sum-cong, sum-add, sum-one, sum-mono, sum-longer, all-below, front-only}
-use Rattle.counting.proofs.Lists.{getD-tabulate, le-largest, largest-snoc}
+use Rattle.counting.proofs.Sums.{sum-cong, sum-add, sum-mono, sum-longer, all-below, front-only}
 use Rattle.pool_counts.specs.Counts.{cyclesBefore}
 
 module _ (cycles : List ℕ) where

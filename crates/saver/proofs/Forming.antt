@@ -5,10 +5,8 @@ use mathlib.Core.Path.{_≡_, _∙_}
 use mathlib.Core.Bool.{Bool, true, false, _&&_}
 use mathlib.Core.List.{List}
 use native.Mathlib.Omega.{arith}
-use native.Mathlib.Decide.{decLt}
 use lib.Dec.{leb}
-use lib.ListN.{length, getD, drop, set, replicate, length-set, length-append, length-drop, length-replicate, length-map, List·getD-append}
-use lib.Seq.{getD-set-same, getD-set-other}
+use lib.ListN.{length, drop, replicate, length-set, length-append, length-drop, length-replicate, length-map, List·getD-append}
 use borrow.Author.Tests.{leb-true}
 use Rattle.counting.specs.Count.{written}
 use Rattle.counting.proofs.Bits.{by-test, and-left, and-right}

@@ -10,14 +10,14 @@ use native.Mathlib.Omega.{arith}
 use native.Mathlib.Decide.{decLe, decLt, ℕ-discrete}
 use lib.Dec.{eqb, leb, ltb}
 use lib.ListN.{length, getD}
-use borrow.Author.Tests.{ltb-true, eqb-true, lt-ltb, le-ltb}
-use Rattle.counting.specs.Count.{bit, howMany, tabulate, largest}
+use borrow.Author.Tests.{ltb-true, lt-ltb, le-ltb}
+use Rattle.counting.specs.Count.{bit, tabulate, largest}
 use Rattle.schedule.specs.Schedule.{cycleOf, cyclesIn, CorrectRead}
 use Rattle.schedule.specs.Dock.{Step, readFrame, endCycle, Dock, emptyDock, deliver, against, holding, step, run}
 use Rattle.schedule.specs.Drive.{readsOf, stepsTo, stepsOf, peak}
 use Rattle.schedule.specs.Closed.{readBefore}
 use Rattle.counting.proofs.Bits.{by-cases, and-left, and-right, bit-le-one, bit-mono}
-use Rattle.counting.proofs.Sums.{sum-mono, sum-add, sum-zero, sum-one, equal-one, one-missing}
+use Rattle.counting.proofs.Sums.{sum-mono, sum-zero, one-missing}
 use Rattle.counting.proofs.Lists.{length-tabulate, getD-tabulate, le-largest, largest-le}
 use Rattle.schedule.proofs.Mid as mid
 use Rattle.schedule.proofs.Drive as drive

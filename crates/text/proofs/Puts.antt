@@ -1,14 +1,14 @@
 -- Digits taken from the table and put into a list place by place: the stores one after another are one run of stores (`sets`).
 -- Assumes nothing.
 use Prim.Native.Nat.{ℕ, zero, suc, _+_, _*_, _/_, _%_, _^_, _<_}
-use mathlib.Core.Path.{_≡_, sym, ap, _∙_}
+use mathlib.Core.Path.{_≡_, sym}
 use mathlib.Core.List.{List, [], _∷_, _++_, append-nil, append-assoc}
 use native.Mathlib.Omega.{arith}
 use native.Mathlib.Numerals.{add-one}
 use native.Mathlib.Nat.{add-zero, add-suc, div-one, div-div-eq-div-mul, pow-suc, pow-succ', one-le-pow}
 use lib.Arith.{mod-mul}
-use lib.ListN.{length, getD, set}
-use lib.Seq.{sets, length-sets}
+use lib.ListN.{getD, set}
+use lib.Seq.{sets}
 use Rattle.counting.proofs.Lists.{getD-tabulate, sets-append}
 use Rattle.text.specs.Hex.{digitOf, digitTexts, hex}
 use Rattle.text.proofs.Hex.{length-hex, hex-step}

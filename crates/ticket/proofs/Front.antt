@@ -2,14 +2,10 @@
 -- Assumes nothing.
 use Prim.Native.Nat.{ℕ, zero, suc, _+_, _*_, _-_, _≤_, _<_}
 use mathlib.Core.Path.{_≡_, refl, subst}
-use mathlib.Core.List.{List, [], _∷_}
+use mathlib.Core.List.{List}
 use native.Mathlib.Omega.{arith}
-use native.Mathlib.Decide.{decLt}
-use native.Mathlib.Nat.{zero-add, suc-add}
-use lib.Dec.{ltb}
-use lib.ListN.{length, take, drop, length-take}
-use lib.Seq.{getD-take, take-nil}
-use borrow.Author.Tests.{lt-ltb, le-ltb}
+use lib.ListN.{take, drop}
+use lib.Seq.{getD-take}
 use Rattle.counting.specs.Count.{tabulate}
 use Rattle.counting.proofs.Lists.{tabulate-cong, drop-take}
 use Rattle.text.specs.Text.{digits, number, isLine}

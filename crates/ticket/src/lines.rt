@@ -1,13 +1,12 @@
 // The frame lines of a ticket: refusals 7 to 9.
-ghost use mathlib.Core.Bool.{cond};
 ghost use mathlib.Core.Path.{_≡_};
 ghost use mathlib.Core.List.{_++_};
 ghost use Prim.Native.Nat.{_+_, _*_, _≤_, min};
 ghost use lib.ListN.{length, drop};
 ghost use Rattle.counting.specs.Count.{tabulate};
-ghost use Rattle.text.specs.Text.{digit, digitValues, isLine};
+ghost use Rattle.text.specs.Text.{digit, digitValues};
 ghost use Rattle.header.specs.Limits.{maxFrames};
-ghost use Rattle.ticket.specs.Ticket.{lineBytes, lineDigits, cardAt, partFault};
+ghost use Rattle.ticket.specs.Ticket.{lineBytes, cardAt, partFault};
 ghost use Rattle.ticket.specs.Lines.{ReadTo};
 
 // The value of two digits, 255 or more where one of them is none.

@@ -6,8 +6,6 @@ use native.Mathlib.Omega.{arith}
 use Rattle.header.proofs.Judged.{judge-2, judge-3, judge-4, judge-5, judge-6, judge-accepts}
 use Rattle.header.proofs.within_limits.Statement.{statement}
 use Rattle.header.proofs.within_limits.Tie as tie
-use Rattle.header.proofs.within_limits.Reads as reads
-use Rattle.header.proofs.within_limits.Lts as lts
 
 returns : tie.Need-returns
 returns c = sym (judge-2 _ (λ e. omega arith))

@@ -5,8 +5,6 @@ use Rattle.text.specs.Text.{digitValues, digit}
 use borrow.Author.Needs.{needs}
 use Rattle.text.proofs.digit_values.Statement.{statement}
 use Rattle.text.proofs.digit_values.Tie as tie
-use Rattle.text.proofs.digit_values.Reads as reads
-use Rattle.text.proofs.digit_values.Lts as lts
 
 array-write-value : tie.Need-array-write-value
 array-write-value c = search needs

@@ -5,10 +5,6 @@ use Rattle.ticket.proofs.Answers.{counts-refused, counts-asked, counts-
 use borrow.Author.Needs.{needs}
 use Rattle.ticket.proofs.counts.Statement.{statement}
 use Rattle.ticket.proofs.counts.Tie as tie
-use Rattle.ticket.proofs.counts.Reads as reads
-use Rattle.ticket.proofs.counts.Lts as lts
-use Rattle.ticket.proofs.parse.Reads as parse-reads
-use Rattle.ticket.proofs.tally.tally.Reads as tally-reads
 
 parse-requires : tie.Need-parse-requires
 parse-requires c κs = search needs

@@ -6,10 +6,6 @@ use Rattle.ticket.proofs.Answers.{stands, no-line, no-place, line-fits,
 use borrow.Author.Needs.{needs}
 use Rattle.ticket.proofs.line.Statement.{statement}
 use Rattle.ticket.proofs.line.Tie as tie
-use Rattle.ticket.proofs.line.Reads as reads
-use Rattle.ticket.proofs.line.Lts as lts
-use Rattle.ticket.proofs.line_refusal.Reads as line-refusal-reads
-use Rattle.ticket.proofs.line_start.Reads as line-start-reads
 
 line-refusal-requires : tie.Need-line-refusal-requires
 line-refusal-requires c κs = search needs

@@ -5,9 +5,6 @@ use Rattle.ticket.proofs.Answers.{number-refused, below, not-below}
 use borrow.Author.Needs.{needs}
 use Rattle.ticket.proofs.line_refusal.Statement.{statement}
 use Rattle.ticket.proofs.line_refusal.Tie as tie
-use Rattle.ticket.proofs.line_refusal.Reads as reads
-use Rattle.ticket.proofs.line_refusal.Lts as lts
-use Rattle.ticket.proofs.parse.Reads as parse-reads
 
 parse-requires : tie.Need-parse-requires
 parse-requires c κs = search needs

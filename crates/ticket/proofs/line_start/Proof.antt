@@ -4,8 +4,6 @@ use mathlib.Core.Path.{refl}
 use borrow.Author.Needs.{needs}
 use Rattle.ticket.proofs.line_start.Statement.{statement}
 use Rattle.ticket.proofs.line_start.Tie as tie
-use Rattle.ticket.proofs.line_start.Reads as reads
-use Rattle.ticket.proofs.line_start.Lts as lts
 
 cast-result : tie.Need-cast-result
 cast-result c = search needs

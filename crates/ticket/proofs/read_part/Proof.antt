@@ -7,11 +7,6 @@ use Rattle.ticket.proofs.Answers.{long, few-frames, part-refused, read}
 use borrow.Author.Needs.{needs}
 use Rattle.ticket.proofs.read_part.Statement.{statement}
 use Rattle.ticket.proofs.read_part.Tie as tie
-use Rattle.ticket.proofs.read_part.Reads as reads
-use Rattle.ticket.proofs.read_part.Lts as lts
-use Rattle.text.proofs.digit_values.Reads as digit-values-reads
-use Rattle.ticket.proofs.lines.read_lines.Reads as read-lines-reads
-use Rattle.ticket.proofs.refused.Reads as refused-reads
 
 digit-values-requires : tie.Need-digit-values-requires
 digit-values-requires c κs = search needs

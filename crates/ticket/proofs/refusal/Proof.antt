@@ -6,9 +6,6 @@ use Rattle.ticket.proofs.Answers.{was-refused, was-accepted}
 use borrow.Author.Needs.{needs}
 use Rattle.ticket.proofs.refusal.Statement.{statement}
 use Rattle.ticket.proofs.refusal.Tie as tie
-use Rattle.ticket.proofs.refusal.Reads as reads
-use Rattle.ticket.proofs.refusal.Lts as lts
-use Rattle.ticket.proofs.parse.Reads as parse-reads
 
 parse-requires : tie.Need-parse-requires
 parse-requires c κs = search needs

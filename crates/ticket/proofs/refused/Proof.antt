@@ -4,8 +4,6 @@ use Rattle.ticket.specs.Ticket.{zeros}
 use mathlib.Core.Path.{refl}
 use Rattle.ticket.proofs.refused.Statement.{statement}
 use Rattle.ticket.proofs.refused.Tie as tie
-use Rattle.ticket.proofs.refused.Reads as reads
-use Rattle.ticket.proofs.refused.Lts as lts
 
 returns : tie.Need-returns
 unfolding zeros

@@ -5,9 +5,6 @@ use Rattle.walker.proofs.Bytes.{past-limit, in-limit}
 use borrow.Author.Needs.{needs}
 use Rattle.walker.proofs.has_line.Statement.{statement}
 use Rattle.walker.proofs.has_line.Tie as tie
-use Rattle.walker.proofs.has_line.Reads as reads
-use Rattle.walker.proofs.has_line.Lts as lts
-use Rattle.ticket.proofs.line_start.Reads as line-start-reads
 
 returns : tie.Need-returns
 returns c = past-limit _ _ (omega arith)

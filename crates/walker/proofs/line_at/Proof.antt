@@ -7,10 +7,6 @@ use Rattle.walker.proofs.Bytes.{has-room, the-line, its-place, no-line,
 use borrow.Author.Needs.{needs}
 use Rattle.walker.proofs.line_at.Statement.{statement}
 use Rattle.walker.proofs.line_at.Tie as tie
-use Rattle.walker.proofs.line_at.Reads as reads
-use Rattle.walker.proofs.line_at.Lts as lts
-use Rattle.ticket.proofs.line_start.Reads as line-start-reads
-use Rattle.walker.proofs.has_line.Reads as has-line-reads
 
 has-line-requires : tie.Need-has-line-requires
 has-line-requires c κs = search needs

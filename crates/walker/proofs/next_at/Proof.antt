@@ -6,9 +6,6 @@ use Rattle.walker.proofs.Bytes.{has-room, moves-on, stays}
 use borrow.Author.Needs.{needs}
 use Rattle.walker.proofs.next_at.Statement.{statement}
 use Rattle.walker.proofs.next_at.Tie as tie
-use Rattle.walker.proofs.next_at.Reads as reads
-use Rattle.walker.proofs.next_at.Lts as lts
-use Rattle.walker.proofs.has_line.Reads as has-line-reads
 
 has-line-requires : tie.Need-has-line-requires
 has-line-requires c κs = search needs

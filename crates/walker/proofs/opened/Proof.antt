@@ -7,9 +7,6 @@ use Rattle.walker.proofs.Bytes.{none-left, whole}
 use borrow.Author.Needs.{needs}
 use Rattle.walker.proofs.opened.Statement.{statement}
 use Rattle.walker.proofs.opened.Tie as tie
-use Rattle.walker.proofs.opened.Reads as reads
-use Rattle.walker.proofs.opened.Lts as lts
-use Rattle.ticket.proofs.refusal.Reads as refusal-reads
 
 refusal-requires : tie.Need-refusal-requires
 refusal-requires c κs = search needs

@@ -13,7 +13,7 @@ ticket-answer-requires : tie.Need-ticket-answer-requires
 ticket-answer-requires c κs = search needs
 
 returns : tie.Need-returns
-returns c = c .ticket-answer .ensures ∙ ap ticketAnswer (c .before .parse .ensures .1)
+returns c = c .ticket-answer .ensures ∙ ap ticketAnswer (c .before .parse .ensures .1 .0)
 
 pub dockplan-parse-spec : {M : Type 1} → statement M
 dockplan-parse-spec = tie.close (tie.spec parse-requires ticket-answer-requires returns)

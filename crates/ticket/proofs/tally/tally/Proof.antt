@@ -9,8 +9,6 @@ use Rattle.ticket.proofs.Counting.{count-small, count-next}
 use borrow.Author.Needs.{needs}
 use Rattle.ticket.proofs.tally.tally.Statement.{statement}
 use Rattle.ticket.proofs.tally.tally.Tie as tie
-use Rattle.ticket.proofs.tally.tally.Reads as reads
-use Rattle.ticket.proofs.tally.tally.Lts as lts
 
 abbrev Inv-loop : tie.InvT-loop
 Inv-loop card n end count₀ i₀ count i = (i ≤ n) × (count ≡ countsUpTo card i)
