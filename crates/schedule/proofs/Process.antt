@@ -3,19 +3,19 @@
 use Prim.Native.Nat.{ℕ, zero, suc, _+_, _≤_, _<_, zero-le}
 use mathlib.Core.Path.{_≡_, refl, sym, ap, _∙_}
 use mathlib.Core.Logic.{_≢_}
-use mathlib.Core.Bool.{not, _&&_, _||_, cond}
+use mathlib.Core.Bool.{_||_, cond}
 use mathlib.Core.List.{List, [], _∷_}
 use native.Mathlib.Omega.{arith}
 use lib.Dec.{eqb, leb, ltb}
 use lib.ListN.{length, length-append, List·getD-append}
 use lib.Seq.{getD-at}
-use borrow.Author.Tests.{ne-eqb, eqb-true, eqb-false, ltb-true, ltb-false}
+use borrow.Author.Tests.{eqb-true, eqb-false, ltb-true, ltb-false}
 use Rattle.counting.specs.Count.{bit, sum, howMany}
 use Rattle.counting.specs.Frames.{cardOf}
 use Rattle.schedule.specs.Schedule.{cycleOf, CorrectSave}
 use Rattle.schedule.specs.Greedy.{Plan, inPool, emptyPlan, enter, isFirst, oneCycle, saveFrame, saveFirst, flush, saveAndKeep, greedyWriting}
 use Rattle.counting.proofs.Bits.{by-cases, by-test, bit-or-le}
-use Rattle.counting.proofs.Sums.{sum-cong, sum-mono, sum-term-le}
+use Rattle.counting.proofs.Sums.{sum-mono, sum-term-le}
 use Rattle.counting.proofs.Lists.{length-tabulate, getD-tabulate}
 use Rattle.schedule.proofs.Bound.{admitted, bound, bound-zero}
 use Rattle.schedule.proofs.Pool.{wait, Cycled, pool-written, pool-next}
@@ -145,11 +145,3 @@ module _ (m : ℕ) (cards : List ℕ) (D : ℕ) (low : (i : ℕ) → i < length 
                     (λ j k. bit-or-le (wait cards (at plan) j) (leb (at plan i) (at plan j))),
               );
         }
-
-    -- up to each of its cycles, greedyWriting has written what the bound allows
-    pub greedy-meets-bound : (u c : ℕ) → u ≤ plan .T → howMany L (λ i. eqb (cardOf cards i) c && leb (at plan i) u) ≡ B u c
-    greedy-meets-bound u c k =
-        sum-cong L (λ i. bit (eqb (cardOf cards i) c && leb (at plan i) u))
-        (λ i. bit (eqb (cardOf cards i) c && (not (wait cards (at plan) i) && leb (at plan i) u)))
-        (λ i l. rw (ne-eqb (at plan i) 0 (λ e. omega (arith, greedy-from-one i l))))
-        ∙ good-greedy .0 .inv .met-bound u c k
