@@ -15,5 +15,6 @@ use Rattle.checker.specs.Check.{checkOf}
 use Rattle.checker.specs.Cases.{told, asked}
 
 pub verdicts-hold : map asked cases ≡ map (λ (x : Case). told (expected x)) cases
-unfolding run peak stepsTo verdictOnRead verdictOnSave digit digits number isLine digitOf hex headerOf withinLimits heading cardAt lineFault linesFault partFault parse lineTexts ticketText checkOf
+unfolding run peak stepsTo verdictOnRead verdictOnSave digit digits number isLine digitOf hex headerOf withinLimits heading
+    cardAt lineFault linesFault partFault parse lineTexts ticketText checkOf
 verdicts-hold = refl

@@ -134,7 +134,9 @@ top-latest {cards} {n = n} {a} {latest} {T = T} v over met =
     }
 
 -- the whole list is saved
-module _ {cards : List ℕ} {K m : ℕ} {a latest due : ℕ → ℕ} {t w T : ℕ} (v : Saved cards K m (length cards) a latest due t w) (top : Top (length cards) a T) where
+module _
+    {cards : List ℕ} {K m : ℕ} {a latest due : ℕ → ℕ} {t w T : ℕ} (v : Saved cards K m (length cards) a latest due t w)
+    (top : Top (length cards) a T) where
   abbrev L : ℕ
   L = length cards
 

@@ -60,7 +60,9 @@ first-turn m back cards out =
           (getD-zeros maxCards) (λ u l. getD-zeros places u);
     }
 
-module _ {m : ℕ} {back : Bool} {cards out₀ out due latest : List ℕ} {made waiting k : ℕ} (f : Asked m cards out₀) (v : Turn m back cards out₀ out due latest made waiting k) where
+module _
+    {m : ℕ} {back : Bool} {cards out₀ out due latest : List ℕ} {made waiting k : ℕ} (f : Asked m cards out₀)
+    (v : Turn m back cards out₀ out due latest made waiting k) where
   module _ (l : k < length cards) where
     opened :
         {made′ waiting′ : ℕ}

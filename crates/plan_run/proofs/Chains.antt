@@ -129,7 +129,9 @@ turn-to {cycles} {c} {i} {x} s l f v =
       met = λ n. (let r = f .met n in (r .1, r .2));
     }
 
-module _ {cycles first after : List ℕ} {c : ℕ} {p : Progress} {before : List ℕ} (s : Small cycles) (ch : Chains cycles 0 first after) (low : c ≤ maxFrames) where
+module _
+    {cycles first after : List ℕ} {c : ℕ} {p : Progress} {before : List ℕ} (s : Small cycles) (ch : Chains cycles 0 first after)
+    (low : c ≤ maxFrames) where
   pub turn-first : Turn cycles c (getD first c 0) p before p before
   turn-first = turn-to s (omega arith) (ch .firsts c (omega arith)) reads-none
 

@@ -13,5 +13,6 @@ use Rattle.planner.specs.Plan.{planOf, bufferAfter}
 use Rattle.planner.specs.Cases.{asked}
 
 pub plans-hold : map asked cases ≡ map expected cases
-unfolding saveAndKeep greedyWriting lazyPrefetching digit digits number isLine digitOf hex headerOf withinLimits heading cardAt lineFault linesFault partFault parse zeros lineTexts ticketText planOf bufferAfter
+unfolding saveAndKeep greedyWriting lazyPrefetching digit digits number isLine digitOf hex headerOf withinLimits heading
+    cardAt lineFault linesFault partFault parse zeros lineTexts ticketText planOf bufferAfter
 plans-hold = refl

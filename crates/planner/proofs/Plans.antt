@@ -91,7 +91,11 @@ module _ {m : ℕ} {cards before after : List ℕ} {made all : ℕ} (f : Asked m
     -- what turning the cycles round asks for
     pub cycles-le : (i : ℕ) → i < length cards → getD after i 0 ≤ all
     cycles-le i l =
-        rw (p .filled, List·getD-append (reverse back) (drop (length (reverse back)) before) 0 i (omega (arith, length-reverse back, back-length)), reverse-getD back i (omega (arith, back-length)))
+        rw (
+          p .filled,
+          List·getD-append (reverse back) (drop (length (reverse back)) before) 0 i (omega (arith, length-reverse back, back-length)),
+          reverse-getD back i (omega (arith, back-length)),
+        )
         (omega (arith, le-largest back (length back - suc i), save-length m (reverse cards) (f .pool), p .all-is))
 
     pub room : length cards ≤ length after

@@ -14,10 +14,6 @@ use Rattle.schedule.specs.Schedule.{cycleOf, oBacklog, iBacklog}
 use Rattle.counting.proofs.Sums.{sum-mono, sum-zero, howMany-le, counted-one, counted-none}
 use Rattle.pool_counts.specs.Counts.{laterUpTo, backlogOf}
 
--- what is left of n falls
-pub fewer-left : (n i : ℕ) → i < n → n - (i + 1) < n - i
-fewer-left n i l = omega arith
-
 -- of the frames below j, those with cycle c or a later one
 pub record Earlier (cycles : List ℕ) (c i j count : ℕ) : Type 0 where
   pub inside : j ≤ i

@@ -66,7 +66,13 @@ module _ (cycles : List ℕ) where
           | no h ↦
               elim (decLe (cyc j) (cyc i)) [
                 | yes g ↦ rw (lt-ltb (cyc j) (suc (cyc i)) (omega arith), le-ltb j (suc i) (omega arith), lt-ltb i j (omega arith), le-leb (cyc j) (cyc i) g)
-                | no g ↦ rw (le-ltb (cyc j) (suc (cyc i)) (omega arith), le-ltb j (suc i) (omega arith), lt-ltb i j (omega arith), lt-leb (cyc j) (cyc i) (omega arith))
+                | no g ↦
+                    rw (
+                      le-ltb (cyc j) (suc (cyc i)) (omega arith),
+                      le-ltb j (suc i) (omega arith),
+                      lt-ltb i j (omega arith),
+                      lt-leb (cyc j) (cyc i) (omega arith),
+                    )
               ]
         ]
 

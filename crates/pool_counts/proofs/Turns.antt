@@ -122,7 +122,8 @@ module _ {cycles table : List ℕ} {i floor most top : ℕ} (v : SaveTurn cycles
 
       pub save-entry : i - 1 ≡ getD table c 0 + oBacklog cycles (i - 1)
       save-entry =
-          let e : getD table c 0 ≡ cyclesBefore cycles (cycleOf cycles (i - 1)) = rw c-is (t .entries (cycleOf cycles (i - 1)) (omega (arith, t .low .up-to-top (i - 1) one-before))) in
+          let e : getD table c 0 ≡ cyclesBefore cycles (cycleOf cycles (i - 1)) =
+          rw c-is (t .entries (cycleOf cycles (i - 1)) (omega (arith, t .low .up-to-top (i - 1) one-before))) in
           omega (arith, e, save-behind cycles (i - 1) one-before (rw c-is at behind))
 
       pub save-place : c < length table
@@ -174,7 +175,8 @@ module _ {cycles : List ℕ} {i most : ℕ} (v : Counted cycles i most) where
       i < length cycles → 1 ≤ cycleOf cycles i → {b x : ℕ} → x ≡ laterUpTo cycles i (cycleOf cycles i - 1) → b ≡ max most x → Counted cycles (i + 1) b
   counted-next l g {b} {x} x-is b-is =
       let e : laterUpTo cycles i (cycleOf cycles i - 1) ≡ readBefore cycles i =
-      sum-cong (length cycles) (λ j. bit (ltb i j && leb (cycleOf cycles j) (cycleOf cycles i - 1))) (λ j. bit (ltb i j && ltb (cycleOf cycles j) (cycleOf cycles i)))
+      sum-cong (length cycles) (λ j. bit (ltb i j && leb (cycleOf cycles j) (cycleOf cycles i - 1)))
+      (λ j. bit (ltb i j && ltb (cycleOf cycles j) (cycleOf cycles i)))
       (λ j k. ap (λ t. bit (ltb i j && t)) (up-to-the-one-before (cycleOf cycles j) (cycleOf cycles i) g)) in
       record { inside = omega arith; so-far = omega (arith, v .so-far, x-is, b-is, e, most-next (readBefore cycles) i) }
 

@@ -37,12 +37,16 @@ module _ (t before : List ℕ) (n : length before ≡ maxFrames) where
     unfolding planOf
     answered = rw has-room
 
-    made : (after : List ℕ) (T : Cycle) → Planned T ≡ planOf (accepted h cards) (length before) → after ≡ bufferAfter (accepted h cards) before → Made t (T .0) after
+    made :
+        (after : List ℕ) (T : Cycle) → Planned T ≡ planOf (accepted h cards) (length before) → after ≡ bufferAfter (accepted h cards) before
+        → Made t (T .0) after
     unfolding bufferAfter
     made after T a b =
         let w = rw has-room at b in
         let room : length cards ≤ length after = omega (arith, ap length w, length-append (plan .cycles) (drop (length (plan .cycles)) before), as-many) in
-        let call = so-of-call h cards before after (Planned T) (record { answer = a; buffer = b }) room (λ cycles t. (t ≡ plan .T) × (cycles ≡ plan .cycles)) as-many (refl, refl) in
+        let call =
+        so-of-call h cards before after (Planned T) (record { answer = a; buffer = b }) room
+        (λ cycles t. (t ≡ plan .T) × (cycles ≡ plan .cycles)) as-many (refl, refl) in
         record { header = h; cards = cards; read = e; room = room; length-is = call .1 .0; cycles = call .1 .1 }
 
   made-from :

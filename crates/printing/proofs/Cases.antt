@@ -11,5 +11,6 @@ use Rattle.printing.specs.Printed.{frameLines, planText, refusalText, te
 use Rattle.printing.specs.Cases.{Case, cases}
 
 pub texts-hold : map (λ (c : Case). c .text) cases ≡ map (λ (c : Case). c .expected) cases
-unfolding cases textOf refusalText planText frameLines lazyPrefetching saveAndKeep greedyWriting digit digits number isLine digitOf hex headerOf withinLimits heading cardAt lineFault linesFault partFault parse
+unfolding cases textOf refusalText planText frameLines lazyPrefetching saveAndKeep greedyWriting digit digits number
+    isLine digitOf hex headerOf withinLimits heading cardAt lineFault linesFault partFault parse
 texts-hold = refl

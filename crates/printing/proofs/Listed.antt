@@ -54,21 +54,37 @@ head-length l x y T text e f = sets-length (set x 4 endByte) y 5 text f ∙ leng
 line-long : (position cycle : ℕ) (card : List ℕ) → length card ≡ 2 → length (hex 4 position ++ (card ++ (hex 4 cycle ++ endOfLine))) ≡ 11
 line-long position cycle card e =
     let c = hex 4 cycle in
-    omega
-    (arith, e, length-append (hex 4 position) (card ++ (c ++ endOfLine)), length-append card (c ++ endOfLine), length-append c endOfLine, length-hex 4 position, length-hex 4 cycle)
+    omega (
+      arith,
+      e,
+      length-append (hex 4 position) (card ++ (c ++ endOfLine)),
+      length-append card (c ++ endOfLine),
+      length-append c endOfLine,
+      length-hex 4 position,
+      length-hex 4 cycle,
+    )
 
 frames-long : (cards cycles : List ℕ) (n : ℕ) → length (frameLines cards cycles n) ≡ 11 * n
 unfolding frameLines
 frames-long cards cycles zero = refl
 frames-long cards cycles (suc n) =
-    omega
-    (arith, length-append (frameLines cards cycles n) (frameLine n (cardOf cards n) (cycleOf cycles n)), frames-long cards cycles n, line-long n (cycleOf cycles n) (hex lineDigits (cardOf cards n)) (length-hex lineDigits (cardOf cards n)))
+    omega (
+      arith,
+      length-append (frameLines cards cycles n) (frameLine n (cardOf cards n) (cycleOf cycles n)),
+      frames-long cards cycles n,
+      line-long n (cycleOf cycles n) (hex lineDigits (cardOf cards n)) (length-hex lineDigits (cardOf cards n)),
+    )
 
 pub plan-long : (cards : List ℕ) (plan : Plan) → length (planText cards plan) ≡ 5 + 11 * length cards
 unfolding planText
 plan-long cards plan =
-    omega
-    (arith, length-append (hex 4 (plan .T) ++ endOfLine) (frameLines cards (plan .cycles) (length cards)), length-append (hex 4 (plan .T)) endOfLine, length-hex 4 (plan .T), frames-long cards (plan .cycles) (length cards))
+    omega (
+      arith,
+      length-append (hex 4 (plan .T) ++ endOfLine) (frameLines cards (plan .cycles) (length cards)),
+      length-append (hex 4 (plan .T)) endOfLine,
+      length-hex 4 (plan .T),
+      frames-long cards (plan .cycles) (length cards),
+    )
 
 module _ (ticket plan : List ℕ) where
   -- frame i's line, with the card's digits as they stand in the ticket
@@ -83,7 +99,13 @@ module _ (ticket plan : List ℕ) where
   lines-long : (n : ℕ) → length (linesFrom n) ≡ 11 * n
   unfolding linesFrom
   lines-long zero = refl
-  lines-long (suc n) = omega (arith, length-append (linesFrom n) (lineFrom n), lines-long n, line-long n (getD plan n 0) (getD ticket (15 + 3 * n) 0 ∷ getD ticket (16 + 3 * n) 0 ∷ []) refl)
+  lines-long (suc n) =
+      omega (
+        arith,
+        length-append (linesFrom n) (lineFrom n),
+        lines-long n,
+        line-long n (getD plan n 0) (getD ticket (15 + 3 * n) 0 ∷ getD ticket (16 + 3 * n) 0 ∷ []) refl,
+      )
 
   pub no-lines : (l : List ℕ) → l ≡ sets l 5 (linesFrom 0)
   unfolding linesFrom

@@ -31,4 +31,13 @@ module _ (l x y : List ℕ) (at position high low cycle : ℕ) where
       let s : at + 5 ≡ suc (at + 4) = omega arith in
       let six : length (p ++ card) ≡ 6 = omega (arith, length-append p card, length-hex 4 position) in
       let ten : length ((p ++ card) ++ c) ≡ 10 = omega (arith, six, length-append (p ++ card) c, length-hex 4 cycle) in
-      rw (f, e, s, sets-append l at p card (at + 4) (rw (length-hex 4 position)), sets-append l at (p ++ card) c (at + 6) (rw six), sets-append l at ((p ++ card) ++ c) endOfLine (at + 10) (rw ten), append-assoc (p ++ card) c endOfLine, append-assoc p card (c ++ endOfLine))
+      rw (
+        f,
+        e,
+        s,
+        sets-append l at p card (at + 4) (rw (length-hex 4 position)),
+        sets-append l at (p ++ card) c (at + 6) (rw six),
+        sets-append l at ((p ++ card) ++ c) endOfLine (at + 10) (rw ten),
+        append-assoc (p ++ card) c endOfLine,
+        append-assoc p card (c ++ endOfLine),
+      )

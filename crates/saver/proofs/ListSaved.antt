@@ -55,7 +55,10 @@ module _ (list : List ℕ) where
             (let z : inPool (p .cycles) ≡ 0 = omega (arith, v .waiting) in
             let again : Closed k p s = closed k p s f v in
             let same : flush list (suc k) p ≡ flush list k p = flush-empty list (suc k) p z ∙ sym (flush-empty list k p z) in
-            record { shows = rw same (refused-shows (flush list k p) k s l (again .shows)); logs = rw same (again .logs ∙ ap (λ a. logOf list p ++ a) (sym (refused-logs k s l))) })
+            record {
+              shows = rw same (refused-shows (flush list k p) k s l (again .shows));
+              logs = rw same (again .logs ∙ ap (λ a. logOf list p ++ a) (sym (refused-logs k s l)));
+            })
         | no l ↦
             (let some : 1 ≤ s .waiting = omega arith in
             let next : flush list (suc k) p ≡ flush list k (oneCycle list p) = rw (ne-eqb (inPool (p .cycles)) 0 (λ z. omega (arith, v .waiting))) in

@@ -161,7 +161,8 @@ module _ (m : ℕ) (cards : List ℕ) (D : ℕ) where
         let after : Dock = perform cards endCycle d in
         let u : (c : ℕ) → missing d c ≤ B k c =
         λ c. omega (arith, missing-under-bound k after w refl c, missing-mono d after c (λ i e a. missing-end d i a)) in
-        (suc k, (omega arith, (λ c. omega (arith, u c, bit-le-one (isIn c (d .busy))), omega (arith, all-somewhere d, sum-mono D (missing d) (B k) (λ c l. u c)))))
+        let sums : sum D (missing d) ≤ sum D (B k) = sum-mono D (missing d) (B k) (λ c l. u c) in
+        (suc k, (omega arith, (λ c. omega (arith, u c, bit-le-one (isIn c (d .busy))), omega (arith, all-somewhere d, sums))))
 
     before-step : (a : Step) (d : Dock) → Before d (step m cards a d)
     before-step (readFrame i) d =

@@ -62,7 +62,8 @@ module _ (cards cycles : List ℕ) (one-each : length cycles ≡ length cards) w
             (λ x.
             let back : L - suc (L - suc j) ≡ j = omega arith in
             let le : cyc (L - suc i) ≤ cyc (L - suc (L - suc j)) =
-            turned-le (L - suc j) i (omega arith) l (leb-true (turned (L - suc j)) (turned i) (and-right (ltb i (L - suc j)) (leb (turned (L - suc j)) (turned i)) x)) in
+            turned-le (L - suc j) i (omega arith) l
+            (leb-true (turned (L - suc j)) (turned i) (and-right (ltb i (L - suc j)) (leb (turned (L - suc j)) (turned i)) x)) in
             le-leb (cyc (L - suc i)) (cyc j) (rw back at le)))
             (λ j k g. let h : L - suc j ≤ i = omega arith in rw (le-ltb i (L - suc j) h))),
       ))
@@ -77,7 +78,10 @@ module _ (cards cycles : List ℕ) (one-each : length cycles ≡ length cards) w
             (λ j k. bit-mono (leb (turned i) (turned j)) (ltb (L - suc i) (L - suc j) && leb (cyc (L - suc j)) (cyc (L - suc i)))
             (λ x.
             let g : L - suc i < L - suc j = omega arith in
-            rw (lt-ltb (L - suc i) (L - suc j) g, le-leb (cyc (L - suc j)) (cyc (L - suc i)) (turned-le i j l (omega arith) (leb-true (turned i) (turned j) x))))),
+            rw (
+              lt-ltb (L - suc i) (L - suc j) g,
+              le-leb (cyc (L - suc j)) (cyc (L - suc i)) (turned-le i j l (omega arith) (leb-true (turned i) (turned j) x)),
+            ))),
         sum-longer i L (λ j. bit (ltb (L - suc i) (L - suc j) && leb (cyc (L - suc j)) (cyc (L - suc i)))) (omega arith),
       ))
 

@@ -195,7 +195,13 @@ module _ (m : ℕ) (cards : List ℕ) (D : ℕ) (low : (i : ℕ) → i < length 
       inv-enter =
           record {
             inside = more;
-            pool-small = omega (arith, room, bit-le-one (wait cards y′ n), sum-cong n (λ i. bit (wait cards y′ i)) (λ i. bit (wait cards y i)) (λ i l. rw (old i l)));
+            pool-small =
+                omega (
+                  arith,
+                  room,
+                  bit-le-one (wait cards y′ n),
+                  sum-cong n (λ i. bit (wait cards y′ i)) (λ i. bit (wait cards y i)) (λ i l. rw (old i l)),
+                );
             meets-bound = meets-bound-enter;
             met-bound = met-bound-enter;
             no-cycle-lost = v .no-cycle-lost;

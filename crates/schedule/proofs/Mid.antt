@@ -66,7 +66,8 @@ module _ (m : ℕ) (cards cycles : List ℕ) where
               omega (
                 arith,
                 rw (ok .one-each) at (ok .pool-rule (d .delivered) l),
-                sum-mono L (λ i. bit (d .held i)) (λ i. bit (eqb i (d .delivered)) + bit (ltb (d .delivered) i && leb (cyc i) (cyc (d .delivered)))) (held-backlog n k d v l),
+                sum-mono L (λ i. bit (d .held i))
+                    (λ i. bit (eqb i (d .delivered)) + bit (ltb (d .delivered) i && leb (cyc i) (cyc (d .delivered)))) (held-backlog n k d v l),
                 sum-add L (λ i. bit (eqb i (d .delivered))) (λ i. bit (ltb (d .delivered) i && leb (cyc i) (cyc (d .delivered)))),
                 equal-at-most-one L (d .delivered),
               )
@@ -126,7 +127,9 @@ module _ (m : ℕ) (cards cycles : List ℕ) where
           held-old = λ i g h a. still-held k d i (v .held-old i g h a);
           held-new = λ i g h a b.
               elim (ℕ-discrete i k) [
-                | yes y ↦ (let f : d .delivered ≤ k = omega arith in rw (eq-eqb i k y) (or-right (d .held k) (leb (d .delivered) k) (le-leb (d .delivered) k f)))
+                | yes y ↦
+                    (let f : d .delivered ≤ k = omega arith in
+                    rw (eq-eqb i k y) (or-right (d .held k) (leb (d .delivered) k) (le-leb (d .delivered) k f)))
                 | no y ↦ still-held k d i (v .held-new i g h a (omega arith))
               ];
           free = λ i g f a. rw (ne-eqb (card i) (card k) (λ e. ok .card-rule k i f g (sym e) (omega arith)), v .free i g (omega arith) a);

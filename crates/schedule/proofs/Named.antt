@@ -87,7 +87,9 @@ module _ (backlog : List ℕ → ℕ → ℕ) (m : ℕ) (cards cycles : List ℕ
   named-from (suc k) i T p j f e =
       let v : Verdict = judgeFrom backlog m cards cycles k (suc i) (valid T p) in
       exact.by-fault backlog m cards cycles i
-      (λ z. same-fault _ i j noCycle f (exact.judged-no-cycle backlog m cards cycles i v z) e (NamedFrom (suc k) i) (here k i noCycle z (λ g l. absurd (omega arith))))
+      (λ z.
+      same-fault _ i j noCycle f (exact.judged-no-cycle backlog m cards cycles i v z) e (NamedFrom (suc k) i)
+      (here k i noCycle z (λ g l. absurd (omega arith))))
       (λ n s.
       same-fault _ i j sharedCard f (exact.judged-shared backlog m cards cycles i v n s) e (NamedFrom (suc k) i)
       (here k i sharedCard (shared-plain i s) (before-shared i n)))

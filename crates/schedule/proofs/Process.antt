@@ -67,7 +67,10 @@ module _ (m : ℕ) (cards : List ℕ) (D : ℕ) (low : (i : ℕ) → i < length 
       let h : Cycled cards n (at p) (p .T) (at (oneCycle cards p)) = λ i l. getD-tabulate (length (p .cycles)) f i 0 (omega (arith, g .long)) in
       let some : 1 ≤ howMany n (wait cards (at p)) = omega (arith, pool-is n p g) in
       let g′ : Good n (oneCycle cards p) =
-      record { long = length-tabulate (length (p .cycles)) f ∙ g .long; inv = inv-cycle m cards D low n (at p) (p .T) (at (oneCycle cards p)) (g .inv) h some full } in (
+      record {
+        long = length-tabulate (length (p .cycles)) f ∙ g .long;
+        inv = inv-cycle m cards D low n (at p) (p .T) (at (oneCycle cards p)) (g .inv) h some full;
+      } in (
         g′,
         omega (arith, pool-is n p g, pool-is n (oneCycle cards p) g′, pool-next cards D low n (at p) (p .T) (at (oneCycle cards p)) h (g .inv .inside) some),
       )

@@ -26,7 +26,10 @@ unfolding digit
 digit-below b =
     by-test (λ d. d < 255 → d < 16) (leb 48 b && leb b 57) (b - 48) (cond (leb 65 b && leb b 70) (b - 55) 255)
     (λ e h. omega (arith, leb-true b 57 (and-right (leb 48 b) _ e)))
-    (λ n. by-test (λ d. d < 255 → d < 16) (leb 65 b && leb b 70) (b - 55) 255 (λ e h. omega (arith, leb-true b 70 (and-right (leb 65 b) _ e))) (λ m h. omega arith))
+    (λ n.
+    by-test (λ d. d < 255 → d < 16) (leb 65 b && leb b 70) (b - 55) 255
+    (λ e h. omega (arith, leb-true b 70 (and-right (leb 65 b) _ e)))
+    (λ m h. omega arith))
 
 module _ (s : List ℕ) (at : ℕ) where
   pub number-step : (n : ℕ) → number s at n * 16 + digit (getD s (at + n) 0) ≡ number s at (suc n)

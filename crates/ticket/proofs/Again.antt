@@ -26,7 +26,13 @@ lines-long : (cards : List ℕ) → length (lineTexts cards) ≡ lineBytes * len
 unfolding lineTexts
 lines-long [] = refl
 lines-long (c ∷ cards) =
-    omega (arith, length-append (hex lineDigits c ++ endOfLine) (lineTexts cards), length-append (hex lineDigits c) endOfLine, length-hex lineDigits c, lines-long cards)
+    omega (
+      arith,
+      length-append (hex lineDigits c ++ endOfLine) (lineTexts cards),
+      length-append (hex lineDigits c) endOfLine,
+      length-hex lineDigits c,
+      lines-long cards,
+    )
 
 line-at : (cards : List ℕ) (i : ℕ) → i < length cards → Line (lineTexts cards) (lineBytes * i) lineDigits
 unfolding lineTexts

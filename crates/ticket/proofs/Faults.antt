@@ -132,7 +132,9 @@ abbrev pub notPassing : Bool → ℕ
 notPassing b = cond b 8 7
 
 -- the lines of a whole part: of n lines those that the text has whole were read, up to the first that does not pass
-module _ (s : List ℕ) (cards n lines : ℕ) (before after : List ℕ) (r : ℕ) (e : lines ≡ min (length s / lineBytes) n) (q : ReadTo s cards lines before r after) where
+module _
+    (s : List ℕ) (cards n lines : ℕ) (before after : List ℕ) (r : ℕ) (e : lines ≡ min (length s / lineBytes) n)
+    (q : ReadTo s cards lines before r after) where
   -- fewer than n pass: the next line does not, also where the text ends within it
   not-next : r < n → lineFault s cards r ≡ 0 → ⊥
   not-next l z =

@@ -54,8 +54,14 @@ module _ (n : ℕ) (t : List ℕ) (long : headerBytes + lineBytes * maxFrames < 
   heading-front : heading (take n t) ≡ heading t
   unfolding heading headerOf
   heading-front =
-      rw
-      (line-front n t 0 headerDigits (omega arith), number-front n t 0 2 (omega arith), number-front n t 2 2 (omega arith), number-front n t 4 2 (omega arith), number-front n t 6 4 (omega arith), number-front n t 10 4 (omega arith))
+      rw (
+        line-front n t 0 headerDigits (omega arith),
+        number-front n t 0 2 (omega arith),
+        number-front n t 2 2 (omega arith),
+        number-front n t 4 2 (omega arith),
+        number-front n t 6 4 (omega arith),
+        number-front n t 10 4 (omega arith),
+      )
 
   after-header : drop headerBytes (take n t) ≡ take (n - headerBytes) (drop headerBytes t)
   after-header =
@@ -66,8 +72,11 @@ module _ (n : ℕ) (t : List ℕ) (long : headerBytes + lineBytes * maxFrames < 
   lines-front (Refused k) e = refl
   lines-front (Accepted h) e =
       let few : h .frames ≤ maxFrames = few-frames t h e in
-      rw
-      (after-header, part-front (n - headerBytes) (h .cards) (drop headerBytes t) (h .frames) (omega arith), cards-front (n - headerBytes) (h .cards) (drop headerBytes t) (h .frames) (omega arith))
+      rw (
+        after-header,
+        part-front (n - headerBytes) (h .cards) (drop headerBytes t) (h .frames) (omega arith),
+        cards-front (n - headerBytes) (h .cards) (drop headerBytes t) (h .frames) (omega arith),
+      )
 
   pub settled : parse (take n t) ≡ parse t
   unfolding parse

@@ -39,7 +39,13 @@ lines-back s zero h = refl
 lines-back s (suc n) h =
     let e : lineBytes * suc n ≡ lineBytes * n + (lineDigits + 1) = omega arith in
     lines-append (tabulate n (cardAt s)) (cardAt s n ∷ [])
-    ∙ rw (lines-back s n (λ i l. h i (omega arith)), one-line (cardAt s n), e, take-add (lineBytes * n) (lineDigits + 1) s, ← line-back s (lineBytes * n) lineDigits (h n (omega arith)))
+    ∙ rw (
+      lines-back s n (λ i l. h i (omega arith)),
+      one-line (cardAt s n),
+      e,
+      take-add (lineBytes * n) (lineDigits + 1) s,
+      ← line-back s (lineBytes * n) lineDigits (h n (omega arith)),
+    )
 
 module _ (t : List ℕ) (l : Line t 0 headerDigits) where
   field : (at n : ℕ) → at + n ≤ headerDigits → hex n (number t at n) ≡ take n (drop at t)
@@ -78,6 +84,7 @@ line-back-at t h cards e p l =
     let r = row t h cards e in
     let k : p < framesOf t = rw (as-many t h cards e, r .its-header) at l in
     let i : Line (part t) (lineBytes * p) lineDigits = r .lines p k .line in
-    let d : digits (part t) (lineBytes * p) lineDigits ≡ true = line-digits (part t) (lineBytes * p) lineDigits (line-true (part t) (lineBytes * p) lineDigits i) in
+    let d : digits (part t) (lineBytes * p) lineDigits ≡ true =
+    line-digits (part t) (lineBytes * p) lineDigits (line-true (part t) (lineBytes * p) lineDigits i) in
     let f : lineBytes * p + lineDigits ≤ length (part t) = omega (arith, i .inside) in
     rw (e, lt-ltb p (length cards) l, card-at t h cards e p l, number-back (part t) (lineBytes * p) lineDigits d f, drop-drop)

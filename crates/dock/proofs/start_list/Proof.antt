@@ -12,7 +12,9 @@ refused-requires : tie.Need-refused-requires
 refused-requires c κs = search needs
 
 returns : tie.Need-returns
-returns c = too-short _ _ _ (c .before .before .before .before .before .pre) (c .before .if1 .taken) _ (c .refused .ensures)
+returns c =
+    let fits = c .before .before .before .before .before .pre in
+    too-short _ _ _ fits (c .before .if1 .taken) _ (c .refused .ensures)
 
 slice-aggregate-copy-cards : tie.Need-slice-aggregate-copy-cards
 slice-aggregate-copy-cards c = search needs

@@ -35,7 +35,8 @@ loop-less c = search needs
 loop-again : tie.Need-loop-again Inv-loop μ-loop
 loop-again c =
     let l = c .before .before .before .loop in
-    (omega arith, omega (arith, l .inv .1, largest-take (c .before .before .before .before .args .latest .now) (l .c) (omega (arith, c .before .before .before .before .pre))))
+    let start = c .before .before .before .before in
+    (omega arith, omega (arith, l .inv .1, largest-take (start .args .latest .now) (l .c) (omega (arith, start .pre))))
 
 loop-less-2 : tie.Need-loop-less-2 Inv-loop μ-loop
 loop-less-2 c = search needs
@@ -43,7 +44,8 @@ loop-less-2 c = search needs
 loop-again-2 : tie.Need-loop-again-2 Inv-loop μ-loop
 loop-again-2 c =
     let l = c .before .before .before .loop in
-    (omega arith, omega (arith, l .inv .1, largest-take (c .before .before .before .before .args .latest .now) (l .c) (omega (arith, c .before .before .before .before .pre))))
+    let start = c .before .before .before .before in
+    (omega arith, omega (arith, l .inv .1, largest-take (start .args .latest .now) (l .c) (omega (arith, start .pre))))
 
 returns : tie.Need-returns Inv-loop μ-loop
 returns c =

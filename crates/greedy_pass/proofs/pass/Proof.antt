@@ -126,7 +126,9 @@ slice-write-out c =
     omega (arith, takenAt .taken-at .ensures .1, turn .loop .inv .same-out, turn .before .before .before .pre .room)
 
 add-waiting : tie.Need-add-waiting Inv-loop μ-loop
-add-waiting c = omega (arith, opened (c .before .before .before .before .before .before) .waiting-low)
+add-waiting c =
+    let entering = c .before .before .before .before .before .before in
+    omega (arith, opened entering .waiting-low)
 
 add-k : tie.Need-add-k Inv-loop μ-loop
 add-k c = search needs

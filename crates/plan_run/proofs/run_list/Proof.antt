@@ -27,18 +27,26 @@ all-cycles-requires c κs =
 
 answer-requires : tie.Need-answer-requires
 answer-requires c κs =
-    let s = c .before .before .before .before .before .before .before .before .before .before in
-    runs.plan-asked (s .args .h) (s .args .memory .now) (s .args .plan .now) (s .pre) (omega (arith, c .before .before .before .before .before .before .if1 .left)) _ (c .before .before .before .before .before .at-start .ensures) _
-    (omega (arith, c .before .before .before .before .cycles-in .ensures)) (omega arith) _ _ (c .before .before .all-cycles .ensures)
+    let made = c .before .before in
+    let last = made .before .before in
+    let begun = last .before in
+    let as-long = omega (arith, begun .before .if1 .left) in
+    let start = begun .before .before .before .before .before in
+    runs.plan-asked (start .args .h) (start .args .memory .now) (start .args .plan .now) (start .pre) as-long _ (begun .at-start .ensures) _
+    (omega (arith, last .cycles-in .ensures)) (omega arith) _ _ (made .all-cycles .ensures)
 
 same-length : tie.Need-same-length
 same-length c = search needs
 
 returns-2 : tie.Need-returns-2
 returns-2 c =
-    let s = c .before .before .before .before .before .before .before .before .before .before .before in
-    runs.plan-ran (s .args .h) (s .args .memory .now) (s .args .plan .now) (s .pre) (omega (arith, c .before .before .before .before .before .before .before .if1 .left)) _ (c .before .before .before .before .before .before .at-start .ensures) _
-    (omega (arith, c .before .before .before .before .before .cycles-in .ensures)) (omega arith) _ _ (c .before .before .before .all-cycles .ensures) _ (c .answer .ensures)
+    let made = c .before .before .before in
+    let last = made .before .before in
+    let begun = last .before in
+    let as-long = omega (arith, begun .before .if1 .left) in
+    let start = begun .before .before .before .before .before in
+    runs.plan-ran (start .args .h) (start .args .memory .now) (start .args .plan .now) (start .pre) as-long _ (begun .at-start .ensures) _
+    (omega (arith, last .cycles-in .ensures)) (omega arith) _ _ (made .all-cycles .ensures) _ (c .answer .ensures)
 
 pub run-list-spec : {M : Type 1} → statement M
 run-list-spec =

@@ -15,7 +15,9 @@ slice-aggregate-fill : tie.Need-slice-aggregate-fill
 slice-aggregate-fill c = search needs
 
 fill-requires : tie.Need-fill-requires
-fill-requires c κs = asked _ _ _ (c .before .before .before .before .before .before .pre) (c .before .before .if1 .left)
+fill-requires c κs =
+    let fits = c .before .before .before .before .before .before .pre in
+    asked _ _ _ fits (c .before .before .if1 .left)
 
 same-length : tie.Need-same-length
 same-length c = search needs

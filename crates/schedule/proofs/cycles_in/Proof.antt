@@ -33,13 +33,19 @@ loop-less : tie.Need-loop-less Inv-loop μ-loop
 loop-less c = search needs
 
 loop-again : tie.Need-loop-again Inv-loop μ-loop
-loop-again c = (omega arith, omega (arith, c .before .before .before .loop .inv .1, largest-take (c .before .before .before .before .args .plan .now) (c .before .before .before .loop .i) (c .before .before .loop-test .taken)))
+loop-again c =
+    let l = c .before .before .before .loop in
+    let plan = c .before .before .before .before .args .plan .now in
+    (omega arith, omega (arith, l .inv .1, largest-take plan (l .i) (c .before .before .loop-test .taken)))
 
 loop-less-2 : tie.Need-loop-less-2 Inv-loop μ-loop
 loop-less-2 c = search needs
 
 loop-again-2 : tie.Need-loop-again-2 Inv-loop μ-loop
-loop-again-2 c = (omega arith, omega (arith, c .before .before .before .loop .inv .1, largest-take (c .before .before .before .before .args .plan .now) (c .before .before .before .loop .i) (c .before .before .loop-test .taken)))
+loop-again-2 c =
+    let l = c .before .before .before .loop in
+    let plan = c .before .before .before .before .args .plan .now in
+    (omega arith, omega (arith, l .inv .1, largest-take plan (l .i) (c .before .before .loop-test .taken)))
 
 returns : tie.Need-returns Inv-loop μ-loop
 returns c = rw (take-all (c .before .loop .i) (c .before .before .args .plan .now) (c .loop-test .left)) at (c .before .loop .inv .1)

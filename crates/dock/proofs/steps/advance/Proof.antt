@@ -30,13 +30,17 @@ same-length : tie.Need-same-length
 same-length c = search needs
 
 returns-2 : tie.Need-returns-2
-returns-2 c = rw (c .before .before .before .before .before .step .given .1) (c .before .before .read-frame .ensures)
+returns-2 c =
+    let its-step = c .before .before .before .before .before .step .given .1 in
+    rw its-step (c .before .before .read-frame .ensures)
 
 same-length-2 : tie.Need-same-length-2
 same-length-2 c = search needs
 
 returns-3 : tie.Need-returns-3
-returns-3 c = rw (c .before .before .before .before .before .step2 .given .1) (c .before .before .drop-frame .ensures)
+returns-3 c =
+    let its-step = c .before .before .before .before .before .step2 .given .1 in
+    rw its-step (c .before .before .drop-frame .ensures)
 
 same-length-3 : tie.Need-same-length-3
 same-length-3 c = search needs

@@ -36,7 +36,8 @@ linked-to-requires : tie.Need-linked-to-requires
 linked-to-requires c κs =
     let pre = c .before .before .before .before .before .before .before .before .before .before .before .before .pre in
     let low = c .before .before .before .before .before .before .before .before .if1 .left in
-    (omega (arith, low), small-plan _ (pre .0) (pre .1) (omega (arith, low)), c .before .before .before .before .before .link .ensures)
+    let linked = c .before .before .before .before .before .link .ensures in
+    (omega (arith, low), small-plan _ (pre .0) (pre .1) (omega (arith, low)), linked)
 
 same-length-2 : tie.Need-same-length-2
 same-length-2 c = search needs

@@ -33,7 +33,10 @@ mul-after : tie.Need-mul-after Inv-loop μ-loop
 mul-after c = omega (arith, link-head (c .before .before .before .pre .0) (c .before .before .loop .inv) (c .before .loop-test .taken) refl)
 
 slice-read-after : tie.Need-slice-read-after Inv-loop μ-loop
-slice-read-after c = omega (arith, link-head (c .before .before .before .before .pre .0) (c .before .before .before .loop .inv) (c .before .before .loop-test .taken) refl, c .before .before .before .loop .inv .first-long)
+slice-read-after c =
+    let linked = c .before .before .before .loop .inv in
+    let small = c .before .before .before .before .pre .0 in
+    omega (arith, link-head small linked (c .before .before .loop-test .taken) refl, linked .first-long)
 
 mul-after-2 : tie.Need-mul-after-2 Inv-loop μ-loop
 mul-after-2 c = omega (arith, c .before .before .before .loop .inv .inside, c .before .before .before .before .pre .0 .few)
@@ -45,10 +48,16 @@ cast-first : tie.Need-cast-first Inv-loop μ-loop
 cast-first c = omega (arith, c .before .before .before .loop .inv .inside, c .before .before .before .before .pre .0 .few)
 
 mul-first : tie.Need-mul-first Inv-loop μ-loop
-mul-first c = omega (arith, link-head (c .before .before .before .before .pre .0) (c .before .before .before .loop .inv) (c .before .before .loop-test .taken) refl)
+mul-first c =
+    let linked = c .before .before .before .loop .inv in
+    let small = c .before .before .before .before .pre .0 in
+    omega (arith, link-head small linked (c .before .before .loop-test .taken) refl)
 
 slice-write-first : tie.Need-slice-write-first Inv-loop μ-loop
-slice-write-first c = omega (arith, link-head (c .before .before .before .before .pre .0) (c .before .before .before .loop .inv) (c .before .before .loop-test .taken) refl, c .before .before .before .loop .inv .first-long)
+slice-write-first c =
+    let linked = c .before .before .before .loop .inv in
+    let small = c .before .before .before .before .pre .0 in
+    omega (arith, link-head small linked (c .before .before .loop-test .taken) refl, linked .first-long)
 
 loop-less : tie.Need-loop-less Inv-loop μ-loop
 loop-less c = omega (arith, c .before .before .loop-test .taken)

@@ -46,13 +46,15 @@ shared-slice-read-x-2 : tie.Need-shared-slice-read-x-2 Inv-loop μ-loop
 shared-slice-read-x-2 c =
     let pre = c .before .before .before .before .before .before .before .before .before .before .before .before .pre in
     let turn = c .before .before .before .before .before .before .loop .inv .1 in
-    turn-place (pre .1) (pre .2) (pre .0) turn (c .before .before .before .before .before .loop-test .taken)
+    let some = c .before .before .before .before .before .loop-test .taken in
+    turn-place (pre .1) (pre .2) (pre .0) turn some
 
 loop-less : tie.Need-loop-less Inv-loop μ-loop
 loop-less c =
     let pre = c .before .before .before .before .before .before .before .before .before .before .before .before .pre in
     let turn = c .before .before .before .before .before .before .loop .inv .1 in
-    turn-less (pre .1) (pre .2) (pre .0) turn (c .before .before .before .before .before .loop-test .taken)
+    let some = c .before .before .before .before .before .loop-test .taken in
+    turn-less (pre .1) (pre .2) (pre .0) turn some
 
 loop-again : tie.Need-loop-again Inv-loop μ-loop
 loop-again c =

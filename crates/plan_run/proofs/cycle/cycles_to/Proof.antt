@@ -29,7 +29,8 @@ add-t c = search needs
 one-cycle-requires : tie.Need-one-cycle-requires Inv-loop μ-loop
 one-cycle-requires c κs =
     let l = c .before .before .loop in
-    (omega arith, c .before .before .before .before .before .before .pre, cycles.next-asked (l .inv .2))
+    let few = c .before .before .before .before .before .before .pre in
+    (omega arith, few, cycles.next-asked (l .inv .2))
 
 next-after-requires : tie.Need-next-after-requires Inv-loop μ-loop
 next-after-requires c κs =

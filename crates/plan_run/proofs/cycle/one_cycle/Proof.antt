@@ -30,7 +30,8 @@ same-length-2 c = search needs
 returns-2 : tie.Need-returns-2
 returns-2 c =
     let pre = c .before .before .before .before .before .before .before .before .before .before .before .before .before .pre in
-    cycles.cycle-ends (pre .0) (omega arith) (c .before .before .before .before .before .before .reads .ensures) (c .before .before .track2 .ensures)
+    let reads-made = c .before .before .before .before .before .before .reads .ensures in
+    cycles.cycle-ends (pre .0) (omega arith) reads-made (c .before .before .track2 .ensures)
 
 pub one-cycle-spec : {M : Type 1} → statement M
 one-cycle-spec =

@@ -29,7 +29,9 @@ shared-slice-read-if1 : tie.Need-shared-slice-read-if1 Inv-loop μ-loop
 shared-slice-read-if1 c = search needs
 
 position-requires : tie.Need-position-requires Inv-loop μ-loop
-position-requires c κs = omega (arith, c .before .before .before .before .before .before .pre .1)
+position-requires c κs =
+    let few = c .before .before .before .before .before .before .pre .1 in
+    omega (arith, few)
 
 track-requires : tie.Need-track-requires Inv-loop μ-loop
 track-requires c κs = search needs

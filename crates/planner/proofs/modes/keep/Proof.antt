@@ -28,10 +28,15 @@ as-of-requires : tie.Need-as-of-requires Inv-loop μ-loop
 as-of-requires c κs = search needs
 
 mul-out : tie.Need-mul-out Inv-loop μ-loop
-mul-out c = omega (arith, c .before .before .before .before .before .good)
+mul-out c =
+    let start = c .before .before .before .before .before in
+    omega (arith, start .good)
 
 slice-write-out : tie.Need-slice-write-out Inv-loop μ-loop
-slice-write-out c = omega (arith, replaced-length (c .before .before .before .loop .inv .1), c .before .before .before .before .before .pre)
+slice-write-out c =
+    let l = c .before .before .before .loop in
+    let room = c .before .before .before .before .before .pre in
+    omega (arith, replaced-length (l .inv .1), room)
 
 add-i : tie.Need-add-i Inv-loop μ-loop
 add-i c = search needs

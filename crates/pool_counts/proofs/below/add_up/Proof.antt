@@ -70,7 +70,9 @@ loop-again c =
     (omega arith, add-next inv (omega (arith, top-is, low .top-low)))
 
 same-length : tie.Need-same-length Inv-loop μ-loop
-same-length c = c .before .loop .inv .1 .long ∙ sym (c .before .before .before .before .before .pre .0 .long)
+same-length c =
+    let counted = c .before .before .before .before .before .pre .0 in
+    c .before .loop .inv .1 .long ∙ sym (counted .long)
 
 returns : tie.Need-returns Inv-loop μ-loop
 returns c =

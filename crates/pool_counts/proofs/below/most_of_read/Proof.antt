@@ -1,6 +1,5 @@
 -- `pool_counts::below::most_of_read` meets its contract.
 -- Assumes nothing.
-use Rattle.pool_counts.proofs.Counting.{fewer-left}
 use borrow.Author.Needs.{needs}
 use Prim.Native.Nat.{_-_}
 use native.Mathlib.Omega.{arith}
@@ -117,7 +116,9 @@ larger-requires-2 : tie.Need-larger-requires-2 Inv-loop μ-loop
 larger-requires-2 c κs = search needs
 
 loop-less : tie.Need-loop-less Inv-loop μ-loop
-loop-less c = fewer-left _ _ (c .before .before .before .before .before .before .before .loop-test .taken)
+loop-less c =
+    let more = c .before .before .before .before .before .before .before .loop-test .taken in
+    omega (arith, more)
 
 loop-again : tie.Need-loop-again Inv-loop μ-loop
 loop-again c =

@@ -26,7 +26,9 @@ add-put4 : tie.Need-add-put4
 add-put4 c = search needs
 
 put4-requires-2 : tie.Need-put4-requires-2
-put4-requires-2 c κs = (c .before .before .before .before .before .before .pre .0, simp length-set (omega arith))
+put4-requires-2 c κs =
+    let table = c .before .before .before .before .before .before .pre .0 in
+    (table, simp length-set (omega arith))
 
 add-out-3 : tie.Need-add-out-3
 add-out-3 c = search needs
@@ -37,10 +39,15 @@ slice-write-out-3 c =
     omega (arith, first .before .before .before .pre .1, line-length _ _ _ _ _ _ _ _ (first .put4 .ensures) (c .before .before .put42 .ensures))
 
 same-length : tie.Need-same-length
-same-length c = simp length-set (line-length _ _ _ _ _ _ _ _ (c .before .before .before .before .before .before .put4 .ensures) (c .before .before .put42 .ensures))
+same-length c =
+    let position = c .before .before .before .before .before .before .put4 .ensures in
+    let cycle = c .before .before .put42 .ensures in
+    simp length-set (line-length _ _ _ _ _ _ _ _ position cycle)
 
 returns : tie.Need-returns
-returns c = put-line _ _ _ _ _ _ _ _ (c .before .before .before .before .before .before .put4 .ensures) (c .before .before .put42 .ensures)
+returns c =
+    let position = c .before .before .before .before .before .before .put4 .ensures in
+    put-line _ _ _ _ _ _ _ _ position (c .before .before .put42 .ensures)
 
 pub frame-line-spec : {M : Type 1} → statement M
 frame-line-spec =

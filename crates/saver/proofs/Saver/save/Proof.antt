@@ -28,29 +28,39 @@ refused-requires-3 c κs = search needs
 
 returns-3 : tie.Need-returns-3
 returns-3 c =
-    is-saved _ (c .before .before .before .before .before .before .pre) (c .refused3 .ensures ∙ sym (save-all-taken _ _ (c .before .before .before .before .before .if1 .left) (omega arith) (omega arith)))
+    let not-closing = c .before .before .before .before .before in
+    is-saved _ (not-closing .before .pre) (c .refused3 .ensures ∙ sym (save-all-taken _ _ (not-closing .if1 .left) (omega arith) (omega arith)))
 
 enter-requires : tie.Need-enter-requires
 enter-requires c κs =
-    record { place = omega (arith, given-formed (c .before .before .before .before .before .before .before .pre) .small-pool); number = omega arith }
+    let given = c .before .before .before .before .before .before .before .pre in
+    record { place = omega (arith, given-formed given .small-pool); number = omega arith }
 
 quiet-requires : tie.Need-quiet-requires
 quiet-requires c κs = search needs
 
 returns-4 : tie.Need-returns-4
 returns-4 c =
-    is-saved _ (c .before .before .before .before .before .before .before .before .before .pre) (c .quiet .ensures ∙ ap quiet (c .before .enter .ensures) ∙ sym (save-enters _ _ (c .before .before .before .before .before .before .before .before .if1 .left) (omega arith) (omega arith) (omega arith)))
+    let not-closing = c .before .before .before .before .before .before .before .before in
+    let enters = sym (save-enters _ _ (not-closing .if1 .left) (omega arith) (omega arith) (omega arith)) in
+    is-saved _ (not-closing .before .pre) (c .quiet .ensures ∙ ap quiet (c .before .enter .ensures) ∙ enters)
 
 one-cycle-requires : tie.Need-one-cycle-requires
-one-cycle-requires c κs = given-formed (c .before .before .before .before .before .before .before .pre)
+one-cycle-requires c κs =
+    let given = c .before .before .before .before .before .before .before .pre in
+    given-formed given
 
 then-enter-requires : tie.Need-then-enter-requires
 then-enter-requires c κs =
-    room-after (c .before .before .before .before .before .before .before .before .pre) (omega arith) (omega arith) (c .one-cycle .ensures)
+    let given = c .before .before .before .before .before .before .before .before .pre in
+    room-after given (omega arith) (omega arith) (c .one-cycle .ensures)
 
 returns-5 : tie.Need-returns-5
 returns-5 c =
-    is-saved _ (c .before .before .before .before .before .before .before .before .before .pre) (c .then-enter .ensures ∙ ap (λ r. thenEnters r (c .before .before .before .before .before .before .before .before .before .args .card)) (c .before .one-cycle .ensures) ∙ sym (save-cycles _ _ (c .before .before .before .before .before .before .before .before .if1 .left) (omega arith) (omega arith) (omega arith)))
+    let not-closing = c .before .before .before .before .before .before .before .before in
+    let start = not-closing .before in
+    let cycles = sym (save-cycles _ _ (not-closing .if1 .left) (omega arith) (omega arith) (omega arith)) in
+    is-saved _ (start .pre) (c .then-enter .ensures ∙ ap (λ r. thenEnters r (start .args .card)) (c .before .one-cycle .ensures) ∙ cycles)
 
 pub save-spec : {M : Type 1} → statement M
 save-spec =

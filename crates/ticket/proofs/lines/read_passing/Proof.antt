@@ -15,7 +15,9 @@ use Rattle.ticket.proofs.lines.read_passing.Statement.{statement}
 use Rattle.ticket.proofs.lines.read_passing.Tie as tie
 
 abbrev Inv-loop : tie.InvT-loop
-Inv-loop value s cards lines card₀ below at₀ i₀ card at i = (i ≤ lines) × (at ≡ lineBytes * i) × (linesFault s cards i ≡ 0) × (length card ≡ length card₀) × (card ≡ tabulate i (cardAt s) ++ drop i card₀)
+Inv-loop value s cards lines card₀ below at₀ i₀ card at i =
+    (i ≤ lines) × (at ≡ lineBytes * i) × (linesFault s cards i ≡ 0) × (length card ≡ length card₀)
+    × (card ≡ tabulate i (cardAt s) ++ drop i card₀)
 
 abbrev μ-loop : tie.MeasureT-loop
 μ-loop value s cards lines card₀ below at₀ i₀ card at i = lines - i

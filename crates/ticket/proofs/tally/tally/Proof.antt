@@ -28,12 +28,14 @@ card-index-requires c κs = search needs
 mul-count : tie.Need-mul-count Inv-loop μ-loop
 mul-count c =
     let b = c .before .before .before in
-    omega (arith, c .before .before .before .before .before .pre .2 (b .loop .i) (omega arith))
+    let each-card = c .before .before .before .before .before .pre .2 in
+    omega (arith, each-card (b .loop .i) (omega arith))
 
 array-read-count : tie.Need-array-read-count Inv-loop μ-loop
 array-read-count c =
     let b = c .before .before .before in
-    omega (arith, c .before .before .before .before .before .pre .2 (b .loop .i) (omega arith))
+    let each-card = c .before .before .before .before .before .pre .2 in
+    omega (arith, each-card (b .loop .i) (omega arith))
 
 add-count : tie.Need-add-count Inv-loop μ-loop
 add-count c =
@@ -45,12 +47,14 @@ add-count c =
 mul-count-2 : tie.Need-mul-count-2 Inv-loop μ-loop
 mul-count-2 c =
     let b = c .before .before .before in
-    omega (arith, c .before .before .before .before .before .pre .2 (b .loop .i) (omega arith))
+    let each-card = c .before .before .before .before .before .pre .2 in
+    omega (arith, each-card (b .loop .i) (omega arith))
 
 array-write-count : tie.Need-array-write-count Inv-loop μ-loop
 array-write-count c =
     let b = c .before .before .before in
-    omega (arith, c .before .before .before .before .before .pre .2 (b .loop .i) (omega arith))
+    let each-card = c .before .before .before .before .before .pre .2 in
+    omega (arith, each-card (b .loop .i) (omega arith))
 
 add-i : tie.Need-add-i Inv-loop μ-loop
 add-i c = search needs
