@@ -11,6 +11,7 @@ ghost use Rattle.checker.specs.Parts.{Checking, NoneAfter, Roomy, isVali
 use crate::Verdict;
 use counting::Cycle;
 use counting::Position;
+use header::limits;
 
 // Whether an earlier frame of the same card has frame i's cycle.
 fn shared(cards: &[u8], plan: &[u16], i: usize) -> bool
@@ -99,7 +100,7 @@ pub(crate) fn first_fault(save: bool, roomy: bool, cards: &[u8], plan: &[u16], m
     requires { ⌜ Checking (now cards) (now plan) × (roomy ≡ true → Roomy save m (now plan)) ⌝ }
     ensures { λ r. ⌜ r ≡ firstFault save m (now (cards .entry)) (now (plan .entry)) ⌝ }
 {
-    let mut latest = [0u16; 32];
+    let mut latest = [0u16; limits::CARDS];
     let n = cards.len();
     let mut i: usize = 0;
     while i < n {

@@ -27,7 +27,7 @@ fn verdict_on_read(cards: &[u8], plan: &[u16], m: u16, top: Cycle) -> Verdict
     requires { ⌜ Checking (now cards) (now plan) × (top .0 ≡ cyclesIn (now plan)) × (top .0 ≤ maxFrames) ⌝ }
     ensures { λ r. ⌜ r ≡ answerOf (verdictOn false m (now (cards .entry)) (now (plan .entry))) ⌝ }
 {
-    let mut table = [0u16; 4098];
+    let mut table = [0u16; limits::FRAMES + 2];
     pool_counts::below::fill(plan, top, &mut table);
     let most = pool_counts::below::most_of_read(plan, top, &table);
     let v = frames::first_fault(false, most.backlog < m, cards, plan, m);
@@ -38,7 +38,7 @@ fn verdict_on_save(cards: &[u8], plan: &[u16], m: u16, top: Cycle) -> Verdict
     requires { ⌜ Checking (now cards) (now plan) × (top .0 ≡ cyclesIn (now plan)) × (top .0 ≤ maxFrames) ⌝ }
     ensures { λ r. ⌜ r ≡ answerOf (verdictOn true m (now (cards .entry)) (now (plan .entry))) ⌝ }
 {
-    let mut table = [0u16; 4098];
+    let mut table = [0u16; limits::FRAMES + 2];
     pool_counts::below::fill(plan, top, &mut table);
     let most = pool_counts::below::most_of_save(plan, top, &table);
     let v = frames::first_fault(true, most < m, cards, plan, m);

@@ -12,6 +12,7 @@ mod steps;
 
 use counting::Position;
 use header::Header;
+use header::limits;
 
 // A step. Positions past the list are against the rules.
 pub enum Step {
@@ -30,7 +31,7 @@ pub struct Dock {
     pub broken: bool,
     // whether any card has read in this cycle, and which
     pub reading: bool,
-    pub busy: [bool; 32],
+    pub busy: [bool; limits::CARDS],
 }
 
 // The dock after a call, and the number of a refusal, 0 for none.
@@ -51,7 +52,7 @@ pub fn empty(pool: u16, frames: u16) -> Dock
         ended: 0,
         broken: false,
         reading: false,
-        busy: [false; 32],
+        busy: [false; limits::CARDS],
     }
 }
 

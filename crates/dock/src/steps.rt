@@ -11,6 +11,7 @@ ghost use Rattle.dock.specs.Parts.{Advanced, HandedOver};
 use crate::Dock;
 use crate::Step;
 use counting::Position;
+use header::limits;
 
 // The card in a frame's byte.
 fn card_in(b: u8) -> usize
@@ -147,7 +148,7 @@ fn end_cycle(dock: Dock, memory: &mut [u8]) -> Dock
         ended: one_more(dock.ended),
         broken: false,
         reading: false,
-        busy: [false; 32],
+        busy: [false; limits::CARDS],
     }
 }
 

@@ -5,6 +5,7 @@ ghost use Rattle.header.specs.Numbers.{numbersOf};
 ghost use Rattle.ticket.specs.Ticket.{parse, numbersIn, lineRefusalOf, lineOf};
 ghost use Rattle.firmware.specs.Answers.{ticketAnswer, linePart, countsAnswer};
 use counting::Position;
+use header::limits;
 
 // What the header of a ticket says.
 #[repr(C)]
@@ -28,7 +29,7 @@ pub struct Part {
 #[repr(C)]
 pub struct CountsAnswer {
     pub refusal: u8,
-    pub frames: [u16; 32],
+    pub frames: [u16; limits::CARDS],
 }
 
 fn ticket_answer(answer: header::Answer) -> TicketAnswer

@@ -4,14 +4,15 @@ ghost use mathlib.Core.Path.{_≡_};
 ghost use Prim.Native.Nat.{_+_, _≤_, _<_, max};
 ghost use lib.ListN.{length};
 ghost use Rattle.counting.specs.Count.{largest};
-ghost use Rattle.header.specs.Limits.{maxCards};
+ghost use Rattle.header.specs.Limits.{maxCards, maxFrames};
 ghost use Rattle.counting.specs.Lists.{takenAt};
 ghost use Rattle.greedy_pass.specs.Pass.{Asked, Passed};
 use counting::Cycle;
+use header::limits;
 
 // The cycle of a frame that enters: the first that its card has free, after the cycles made.
 fn next_cycle(latest: Cycle, made: Cycle) -> Cycle
-    requires { ⌜ (latest .0 ≤ 4096) × (made .0 ≤ 4096) ⌝ }
+    requires { ⌜ (latest .0 ≤ maxFrames) × (made .0 ≤ maxFrames) ⌝ }
     ensures { λ r. ⌜ r .0 ≡ max (latest .0) (made .0) + 1 ⌝ }
 {
     if latest.0 < made.0 {
@@ -30,13 +31,13 @@ fn taken_at(back: bool, n: usize, k: usize) -> usize
 }
 
 // The largest of the cards' latest cycles. The array's fixed length lets the compiler unroll the loop.
-fn largest(latest: &[u16; 32]) -> Cycle
+fn largest(latest: &[u16; limits::CARDS]) -> Cycle
     requires { ⌜ length (now latest) ≡ maxCards ⌝ }
     ensures { λ r. ⌜ r .0 ≡ largest (now (latest .entry)) ⌝ }
 {
     let mut top: u16 = 0;
     let mut c: usize = 0;
-    while c < 32 {
+    while c < limits::CARDS {
         let l = latest[c];
         c += 1;
         if top < l {
@@ -60,8 +61,8 @@ pub fn pass(cards: &[u8], m: u16, back: bool, out: &mut [u16]) -> Cycles
     requires { ⌜ Asked m (now cards) (now out) ⌝ }
     ensures { λ r. ⌜ Passed m back (now (cards .entry)) (now (out .entry)) (now (out .exit)) (r .made .0) (r .all .0) ⌝ }
 {
-    let mut due = [0u16; 4097];
-    let mut latest = [0u16; 32];
+    let mut due = [0u16; limits::FRAMES + 1];
+    let mut latest = [0u16; limits::CARDS];
     let mut made = Cycle(0);
     let mut waiting: u16 = 0;
     let n = cards.len();

@@ -13,3 +13,10 @@ pub const MAX_CARDS: u8 = 32;
 pub const MAX_POOL: u16 = 1024;
 
 pub const MAX_FRAMES: u16 = 4096;
+
+// The limits as lengths of tables: a place for each card, for each frame, and for each frame that can wait in a pool.
+pub const CARDS: usize = MAX_CARDS as usize;
+
+pub const FRAMES: usize = MAX_FRAMES as usize;
+
+pub const POOL: usize = MAX_POOL as usize;

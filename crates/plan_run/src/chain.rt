@@ -84,8 +84,8 @@ pub(crate) fn all_cycles(p: Progress, plan: &[u16], last: Cycle, memory: &mut [u
     if limits::MAX_FRAMES < last.0 {
         return cycle::cycles_to(p, plan, last, memory);
     }
-    let mut first = [NONE; 4097];
-    let mut after = [0u16; 4096];
+    let mut first = [NONE; limits::FRAMES + 1];
+    let mut after = [0u16; limits::FRAMES];
     link(plan, &mut first, &mut after);
     linked_to(p, plan, last, &first, &after, memory)
 }

@@ -3,6 +3,7 @@ ghost use mathlib.Core.Path.{_≡_};
 ghost use Prim.Native.Nat.{ℕ, _+_, _-_, _≤_, _<_};
 ghost use lib.ListN.{length, getD};
 ghost use Rattle.schedule.specs.Greedy.{greedyWriting, saveAndKeep, lazyPrefetching};
+ghost use Rattle.header.specs.Limits.{maxFrames};
 ghost use Rattle.greedy_pass.specs.AsOf.{asOf};
 ghost use Rattle.counting.specs.Lists.{onFirst};
 ghost use Rattle.greedy_pass.specs.Pass.{Asked};
@@ -13,7 +14,7 @@ use header::limits;
 
 // Cycle c of a schedule of t cycles becomes t − c + 1, at the first n places.
 fn turn_round(out: &mut [u16], n: usize, t: Cycle)
-    requires { ⌜ (n ≤ length (now out)) × (t .0 ≤ 4096) × ((i : ℕ) → i < n → getD (now out) i 0 ≤ t .0) ⌝ }
+    requires { ⌜ (n ≤ length (now out)) × (t .0 ≤ maxFrames) × ((i : ℕ) → i < n → getD (now out) i 0 ≤ t .0) ⌝ }
     ensures { λ r. ⌜ now (out .exit) ≡ onFirst (λ c. t .0 - c + 1) n (now (out .entry)) ⌝ }
 {
     let mut i: usize = 0;

@@ -7,6 +7,7 @@ ghost use Rattle.schedule.specs.Closed.{readBefore};
 ghost use Rattle.header.specs.Limits.{maxFrames};
 ghost use Rattle.pool_counts.specs.Counts.{Zeroed, Low, Tallied, Table, Bounds, mostOf};
 use counting::Cycle;
+use header::limits;
 
 // Counts the frames of each cycle, one place further on.
 fn tally(plan: &[u16], table: &mut [u16])
@@ -80,12 +81,15 @@ pub fn most_of_read(plan: &[u16], top: Cycle, table: &[u16]) -> Most
     }
 }
 
-// A save. `floor` is the smallest cycle of the later frames, 4,097 behind the last.
+// A cycle after all that the table has.
+const PAST_ALL: usize = limits::FRAMES + 1;
+
+// A save. `floor` is the smallest cycle of the later frames, past all behind the last.
 pub fn most_of_save(plan: &[u16], top: Cycle, table: &[u16]) -> u16
     requires { ⌜ Table (now plan) (now table) (top .0) ⌝ }
     ensures { λ r. ⌜ Bounds oBacklog (now (plan .entry)) r ⌝ }
 {
-    let mut floor: usize = 4097;
+    let mut floor: usize = PAST_ALL;
     let mut most: u16 = 0;
     let mut i: usize = plan.len();
     while 0 < i {

@@ -4,6 +4,7 @@ ghost use lib.ListN.{length, replicate};
 ghost use Rattle.counting.specs.Count.{written};
 ghost use Rattle.printing.specs.Printed.{printed, bytesIn, bufferAfter, Front};
 ghost use Rattle.printing.specs.Sizes.{inputBytes, longestText};
+use header::limits;
 
 mod lines;
 
@@ -11,7 +12,7 @@ mod lines;
 pub const INPUT: usize = 65536;
 
 // The bytes of the longest text: the line of T, and a line for each of 4,096 frames.
-pub const LONGEST: usize = 45061;
+pub const LONGEST: usize = 5 + 11 * limits::FRAMES;
 
 // A buffer for the program's input, all zeros.
 pub fn input_buffer() -> [u8; INPUT]
@@ -36,7 +37,7 @@ pub fn print(ticket: &[u8], out: &mut [u8]) -> usize
     ensures buffer { λ r. ⌜ now (out .exit) ≡ bufferAfter (printed (now (ticket .entry))) (now (out .entry)) ⌝ }
     ensures front { λ r. ⌜ Front r (now (out .exit)) ⌝ }
 {
-    let mut plan = [0u16; 4096];
+    let mut plan = [0u16; limits::FRAMES];
     let answer = planner::plan(ticket, &mut plan);
     match answer {
         planner::Answer::Refused(number) => lines::refusal(number, out),

@@ -22,8 +22,8 @@ pub struct Saver {
     // how many frames wait in the pool
     pub waiting: u16,
     pub closing: bool,
-    pub card: [u8; 1024],
-    pub position: [Position; 1024],
+    pub card: [u8; limits::POOL],
+    pub position: [Position; limits::POOL],
 }
 
 // What a call gives back: the number of a refusal, 0 for none; the cycle that it made, 0 for none; for each card the position written in
@@ -32,7 +32,7 @@ pub struct Saver {
 pub struct Answer {
     pub refusal: u8,
     pub cycle: Cycle,
-    pub written: [Position; 32],
+    pub written: [Position; limits::CARDS],
     pub saver: Saver,
 }
 

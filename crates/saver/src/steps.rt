@@ -6,6 +6,7 @@ use crate::Answer;
 use crate::Saver;
 use counting::Cycle;
 use counting::Position;
+use header::limits;
 
 // The entry of a card that writes nothing.
 const NONE: u16 = 65535;
@@ -20,8 +21,8 @@ pub(crate) fn empty(cards: u8, pool: u16, closing: bool) -> Saver
         made: Cycle(0),
         waiting: 0,
         closing: closing,
-        card: [0u8; 1024],
-        position: [Position(0); 1024],
+        card: [0u8; limits::POOL],
+        position: [Position(0); limits::POOL],
     }
 }
 
@@ -31,7 +32,7 @@ pub(crate) fn refused(number: u8, saver: Saver) -> Answer
     Answer {
         refusal: number,
         cycle: Cycle(0),
-        written: [Position(NONE); 32],
+        written: [Position(NONE); limits::CARDS],
         saver: saver,
     }
 }
@@ -70,9 +71,9 @@ pub(crate) fn one_cycle(saver: Saver) -> Answer
     requires { ⌜ Formed saver ⌝ }
     ensures { λ r. ⌜ r ≡ cycleOn saver ⌝ }
 {
-    let mut written = [Position(NONE); 32];
-    let mut card = [0u8; 1024];
-    let mut position = [Position(0); 1024];
+    let mut written = [Position(NONE); limits::CARDS];
+    let mut card = [0u8; limits::POOL];
+    let mut position = [Position(0); limits::POOL];
     let mut left: u16 = 0;
     let mut i: u16 = 0;
     while i < saver.waiting {

@@ -12,11 +12,12 @@ mod tally;
 use counting::Position;
 use header::Answer;
 use header::Header;
+use header::limits;
 
 // A ticket that was read. The card of frame i stands at place i; places past the last frame are 0, and beside a refusal all are.
 pub struct Ticket {
     pub answer: Answer,
-    pub card: [u8; 4096],
+    pub card: [u8; limits::FRAMES],
 }
 
 fn refused(number: u8) -> Ticket
@@ -24,7 +25,7 @@ fn refused(number: u8) -> Ticket
 {
     Ticket {
         answer: Answer::Refused(number),
-        card: [0u8; 4096],
+        card: [0u8; limits::FRAMES],
     }
 }
 
@@ -34,7 +35,7 @@ fn read_part(t: &[u8], h: Header) -> Ticket
     ensures { λ r. ⌜ r ≡ ticketOf (parse (now (t .entry))) ⌝ }
 {
     let value = text::digit_values();
-    let mut card = [0u8; 4096];
+    let mut card = [0u8; limits::FRAMES];
     let number = lines::read_lines(&value, &t[15..], h.cards, h.frames, &mut card);
     if number != 0 {
         return refused(number);
@@ -103,14 +104,14 @@ pub fn line(t: &[u8], p: Position) -> &[u8]
 }
 
 // How many frames each of the 32 cards has; all 0 with a refusal.
-pub fn counts(t: &[u8]) -> [u16; 32]
+pub fn counts(t: &[u8]) -> [u16; limits::CARDS]
     ensures { λ r. ⌜ r ≡ countsOf (parse (now (t .entry))) ⌝ }
 {
     let ticket = parse(t);
     let answer = ticket.answer;
     let card = ticket.card;
     match answer {
-        Answer::Refused(_) => [0u16; 32],
+        Answer::Refused(_) => [0u16; limits::CARDS],
         Answer::Accepted(h) => tally::tally(&card, h.frames),
     }
 }

@@ -30,10 +30,10 @@ answer-requires c κs =
     let made = c .before .before in
     let last = made .before .before in
     let begun = last .before in
-    let as-long = omega (arith, begun .before .if1 .left) in
     let start = begun .before .before .before .before .before in
-    runs.plan-asked (start .args .h) (start .args .memory .now) (start .args .plan .now) (start .pre) as-long _ (begun .at-start .ensures) _
-    (omega (arith, last .cycles-in .ensures)) (omega arith) _ _ (made .all-cycles .ensures)
+    runs.plan-asked (start .args .h) (start .args .memory .now) (start .args .plan .now) (start .pre)
+    (omega (arith, begun .before .if1 .left)) _ (begun .at-start .ensures) _
+    (omega (arith, last .cycles-in .ensures)) (omega (arith, last .cycles-in .ok)) _ _ (made .all-cycles .ensures)
 
 same-length : tie.Need-same-length
 same-length c = search needs
@@ -43,10 +43,10 @@ returns-2 c =
     let made = c .before .before .before in
     let last = made .before .before in
     let begun = last .before in
-    let as-long = omega (arith, begun .before .if1 .left) in
     let start = begun .before .before .before .before .before in
-    runs.plan-ran (start .args .h) (start .args .memory .now) (start .args .plan .now) (start .pre) as-long _ (begun .at-start .ensures) _
-    (omega (arith, last .cycles-in .ensures)) (omega arith) _ _ (made .all-cycles .ensures) _ (c .answer .ensures)
+    runs.plan-ran (start .args .h) (start .args .memory .now) (start .args .plan .now) (start .pre)
+    (omega (arith, begun .before .if1 .left)) _ (begun .at-start .ensures) _
+    (omega (arith, last .cycles-in .ensures)) (omega (arith, last .cycles-in .ok)) _ _ (made .all-cycles .ensures) _ (c .answer .ensures)
 
 pub run-list-spec : {M : Type 1} → statement M
 run-list-spec =

@@ -42,8 +42,8 @@ quiet-requires c κs = search needs
 returns-4 : tie.Need-returns-4
 returns-4 c =
     let not-closing = c .before .before .before .before .before .before .before .before in
-    let enters = sym (save-enters _ _ (not-closing .if1 .left) (omega arith) (omega arith) (omega arith)) in
-    is-saved _ (not-closing .before .pre) (c .quiet .ensures ∙ ap quiet (c .before .enter .ensures) ∙ enters)
+    is-saved _ (not-closing .before .pre)
+    (c .quiet .ensures ∙ ap quiet (c .before .enter .ensures) ∙ sym (save-enters _ _ (not-closing .if1 .left) (omega arith) (omega arith) (omega arith)))
 
 one-cycle-requires : tie.Need-one-cycle-requires
 one-cycle-requires c κs =
@@ -59,8 +59,10 @@ returns-5 : tie.Need-returns-5
 returns-5 c =
     let not-closing = c .before .before .before .before .before .before .before .before in
     let start = not-closing .before in
-    let cycles = sym (save-cycles _ _ (not-closing .if1 .left) (omega arith) (omega arith) (omega arith)) in
-    is-saved _ (start .pre) (c .then-enter .ensures ∙ ap (λ r. thenEnters r (start .args .card)) (c .before .one-cycle .ensures) ∙ cycles)
+    is-saved _ (start .pre)
+    (c .then-enter .ensures
+    ∙ ap (λ r. thenEnters r (start .args .card)) (c .before .one-cycle .ensures)
+    ∙ sym (save-cycles _ _ (not-closing .if1 .left) (omega arith) (omega arith) (omega arith)))
 
 pub save-spec : {M : Type 1} → statement M
 save-spec =
