@@ -3,3 +3,4 @@ pub mod Bytes
 pub mod Held
 pub mod Steps
 pub mod Same
+pub mod MirSteps
