@@ -24,7 +24,8 @@ lines-end t m none zero = ap (readerLines t) (add-zero m) ∙ sym (append-nil (r
 lines-end t m none (suc n) =
     ap (readerLines t) (add-suc m n)
     ∙ rw (lines-end t m none n, ← none (m + n) (omega arith)) (append-assoc (readerLines t m) (replicate n end) (end ∷ []))
-    ∙ ap (λ (x : List (List ℕ)). readerLines t m ++ x) (replicate-append-replicate n 1 end ∙ ap (λ (k : ℕ). replicate k end) (let q : n + 1 ≡ suc n = omega arith in q))
+    ∙ ap (λ (x : List (List ℕ)). readerLines t m ++ x)
+    (replicate-append-replicate n 1 end ∙ ap (λ (k : ℕ). replicate k end) (let q : n + 1 ≡ suc n = omega arith in q))
 
 -- With an accepted ticket the first step that gives the end comes after the last line: every line has its 2 digits.
 pub line-not-end :
@@ -52,7 +53,8 @@ module _ (t : List ℕ) (w : Walker) (s : WalksOn t 0 w) where
 
   -- "it gives the lines in list order, and "end" after the last": exactly the L lines of the reader, and the end ever after
   pub accepted-walk :
-      (h : Header) (cards : List ℕ) → parse t ≡ accepted h cards → (n : ℕ) → walk (length cards + n) w ≡ readerLines t (length cards) ++ replicate n end
+      (h : Header) (cards : List ℕ) → parse t ≡ accepted h cards → (n : ℕ)
+      → walk (length cards + n) w ≡ readerLines t (length cards) ++ replicate n end
   accepted-walk h cards e n =
       walk-gives (length cards + n)
       ∙ lines-end t (length cards) (λ p l. no-line t p {k = 16} (rw (e, le-ltb p (length cards) l)) (λ z. omega (arith, z))) n

@@ -1,6 +1,6 @@
 -- Steps that the walks by hand share.
---     here             a local as a place.        a-field      a field of a local that is a struct is read
---     one-local, two-locals        a local, and two of them, as operands
+--     here             a local as a place
+--     one-local, two-locals        a local, and two of them, as operands.        a-field      a field of a local that is a struct is read
 --     own-field        what a field of a struct owns, of what the struct owns; the rest is let go
 --     twice            what a value of a Copy type owns is had twice
 --     calls-known      a call of a function whose contract states a fact of its result. What it asks is at the head of the context. Once it
@@ -8,7 +8,7 @@
 --                      and the fact and the type's relation are known
 --     frees-at         a local is freed, whatever it holds
 -- Assumes `Given`, as every walk does.
-use mathlib.Core.Path.{_≡_, refl, sym, ap, subst}
+use mathlib.Core.Path.{_≡_, refl, sym, subst}
 use Prim.Native.Nat.{ℕ, zero}
 use mathlib.Core.List.{List, [], _∷_}
 use mathlib.Core.Option.{some as found}
@@ -60,6 +60,10 @@ module _ {M : Type 1} (𝓤 : URA M) (H : Heap 𝓤) (A : Atoms 𝓤) (S : Ended
       pub tells : Tells Result (Is Result) vals
       pub says : Result .Denot → Type 0
       pub stated : (r : Result .Denot) (e : AtExit S (x .0)) → ent 𝓤 (c (x .0) (x .3) .ensures g r e) (fact 𝓤 (says r))
+
+    -- what there is once it has returned r: what r owns and the lifetimes' tokens, beside the caller's own
+    abbrev Returned : Known → Result .Denot → List (Item 𝓤) → List (Item 𝓤)
+    Returned k r Γ = ‵ (Result .own r (k .vals r)) ∷ raw (alive 𝓤 H A (S .signature) (x .0) (x .1)) ∷ Γ
 
     known-fact : (k : Known) (r : Result .Denot) → ent 𝓤 (ensured 𝓤 H A S c (x .0) (x .3) g r) (fact 𝓤 (k .says r))
     known-fact k r = exE 𝓤 _ (λ ws. via 𝓤 _ (snd∗ 𝓤 (sem 𝓤 H A (lasts S (x .0) (x .3) ws)) _) (k .stated r _))
@@ -119,8 +123,7 @@ module _ {M : Type 1} {𝓤 : URA M} {H : Heap 𝓤} {A : Atoms 𝓤} {K : Type 
         → (x : Bound 𝓤 H A (S .signature)) (g : c (x .0) (x .3) .ghost) (k : Known 𝓤 H A S c x g)
         → Opds K W (raw (Callee 𝓤 H A S c .pre (x, g)) ∷ Γ) E xs (passed 𝓤 H A (S .signature) x)
         → ((r : Res (S .signature) (x .0)) → k .says r → Is (typeAt (S .signature .result) (x .0)) r (k .vals r)
-        → Seq K W (‵ (typeAt (S .signature .result) (x .0) .own r (k .vals r)) ∷ raw (alive 𝓤 H A (S .signature) (x .0) (x .1)) ∷ Γ)
-        (lands C Λ E d (only (k .vals r)) rest q))
+        → Seq K W (Returned 𝓤 H A S c x g k r Γ) (lands C Λ E d (only (k .vals r)) rest q))
         → Seq K W (raw (Callee 𝓤 H A S c .pre (x, g)) ∷ Γ) (runs C Λ E (seq (call f xs d) rest) q)
     calls-known t fm S c met x g k os after =
         let R : RattleType = typeAt (S .signature .result) (x .0) in
@@ -137,12 +140,12 @@ module _ {M : Type 1} {𝓤 : URA M} {H : Heap 𝓤} {A : Atoms 𝓤} {K : Type 
   pub frees-at : K → (n : ℕ) {τ : Ty} {b : ℕ} {v : Val} {E : Env 𝓤 H} {g : Goal 𝓤 H}
       → nth 𝓤 H A n Γ ≡ ‵ (fat fullShare τ b zero v) → nth 𝓤 H A n (del 𝓤 H A n Γ) ≡ ‵ (fdies τ b)
       → Step K W (del 𝓤 H A n (del 𝓤 H A n Γ)) (frees E g) Γ (frees ((τ, b) ∷ E) g)
-  frees-at t n {τ} {b} {v} {E} {g} cell dies = step (λ s.
-      let room : Item 𝓤 = ‵ (fat fullShare τ b zero v) in
+  frees-at t n {τ} {b} {v} {E} {g} is-cell is-end = step (λ s.
+      let cell : Item 𝓤 = ‵ (fat fullShare τ b zero v) in
       let end : Item 𝓤 = ‵ (fdies τ b) in
       let others : List (Item 𝓤) = del 𝓤 H A n Γ in
       let left : List (Item 𝓤) = del 𝓤 H A n others in
-      let frees-first : Seq K W (room ∷ end ∷ left) (frees ((τ, b) ∷ E) g) = forget t 0 refl $ free1 t $ s in
-      let end-first = via 𝓤 (Apart 𝓤 H A others n end) (takes 𝓤 H A others n dies) (push 𝓤 H A end left) in
-      let both-first = via 𝓤 (Apart 𝓤 H A Γ n room) (takes 𝓤 H A Γ n cell) (monoR 𝓤 (mean 𝓤 H A room) end-first) in
-      record { prf = via 𝓤 (⋆ 𝓤 H A (room ∷ end ∷ left)) both-first (frees-first .prf) })
+      let frees-first : Seq K W (cell ∷ end ∷ left) (frees ((τ, b) ∷ E) g) = forget t 0 refl $ free1 t $ s in
+      let end-first = via 𝓤 (Apart 𝓤 H A others n end) (takes 𝓤 H A others n is-end) (push 𝓤 H A end left) in
+      let both-first = via 𝓤 (Apart 𝓤 H A Γ n cell) (takes 𝓤 H A Γ n is-cell) (monoR 𝓤 (mean 𝓤 H A cell) end-first) in
+      record { prf = via 𝓤 (⋆ 𝓤 H A (cell ∷ end ∷ left)) both-first (frees-first .prf) })

@@ -62,7 +62,13 @@ module _ (t : List ℕ) (p : ℕ) where
     place-refused = rw (none, e, ne-eqb k 0 (a-number t k e)) (sym (no-place end p nothing))
 
   pub same-line : lineAt (opened t) p ≡ lineOf t p
-  same-line = (elim (parse t) as (λ a. parse t ≡ a → lineAt (opened t) p ≡ lineOf t p) [ accepted h cards ↦ line-read h cards | refused k ↦ line-refused k ]) refl
+  same-line = (elim (parse t) as (λ a. parse t ≡ a → lineAt (opened t) p ≡ lineOf t p) [
+    | accepted h cards ↦ line-read h cards
+    | refused k ↦ line-refused k
+  ]) refl
 
   pub same-place : placeAt (opened t) p ≡ linePlace t p
-  same-place = (elim (parse t) as (λ a. parse t ≡ a → placeAt (opened t) p ≡ linePlace t p) [ accepted h cards ↦ place-read h cards | refused k ↦ place-refused k ]) refl
+  same-place = (elim (parse t) as (λ a. parse t ≡ a → placeAt (opened t) p ≡ linePlace t p) [
+    | accepted h cards ↦ place-read h cards
+    | refused k ↦ place-refused k
+  ]) refl

@@ -1,7 +1,7 @@
 -- What a walker gives step by step, on any bytes and from any position: the lines from there on, and the end ever after.
 -- Assumes nothing.
 use Prim.Native.Nat.{ℕ, zero, suc, _+_, _≤_}
-use mathlib.Core.Bool.{Bool, true, false}
+use mathlib.Core.Bool.{false, true≢false}
 use mathlib.Core.Path.{_≡_, refl, sym, ap, _∙_}
 use mathlib.Core.List.{List}
 use mathlib.Core.Logic.{_⊎_, inl, inr}
@@ -11,14 +11,11 @@ use Rattle.walker.specs.Walk.{hasLine, end, lineAt, placeAt, nextAt, giv
 use Rattle.walker.proofs.Bytes.{has-room, room-has, no-line, no-place, moves-on, stays}
 use Rattle.walker.specs.declared.Walker.{Walker}
 
-not-both : {b : Bool} → b ≡ true → b ≡ false → ⊥
-not-both {b} y n = let z : _≡_ {A = ℕ} 0 1 = cc in omega arith
-
 -- where there is no line, there is none later
 none-later : (bytes : List ℕ) (p q : ℕ) → p ≤ q → hasLine bytes p ≡ false → hasLine bytes q ≡ false
 none-later bytes p q l n =
     by-cases (hasLine bytes q)
-    (λ y. let r = has-room bytes q y in absurd (not-both (room-has bytes p (omega (arith, r .0)) (omega (arith, r .1))) n))
+    (λ y. let r = has-room bytes q y in absurd (true≢false (sym (room-has bytes p (omega (arith, r .0)) (omega (arith, r .1))) ∙ n)))
     (λ m. m)
 
 module _ (w : Walker) where

@@ -33,7 +33,7 @@ use denote.Struct.Rest.{own-put, own-shut}
 use denote.Struct.Values.{Values}
 use denote.Triple.Bound.{Bound}
 use denote.Triple.Clauses.{Clauses}
-use denote.Triple.Entry.{Args, Vals, alive, onEntry}
+use denote.Triple.Entry.{Vals, alive, onEntry}
 use denote.Triple.Spec.{Meets, tripleOf}
 use denote.Triple.Statement.{Contract, Triple}
 use denote.Triple.Table.{entered, cited}
@@ -115,17 +115,14 @@ module _ {M : Type 1} (𝓤 : URA M) (H : Heap 𝓤) (A : Atoms 𝓤) (W : Given
     Post = walkOf 𝓤 H A step.ended stayed clauses .post (bound, tt)
 
     -- what both callees are passed
-    abbrev parts : Args line.signature (κ, tt)
-    parts = (d .ticket, (d .next, tt))
-
     abbrev passed : Vals line.signature (κ, tt)
     passed = (value (d .ticket) ∷ [], (position-vals (d .next), tt))
 
     abbrev to : Bound 𝓤 H A line.signature
-    to = ((κ, tt), (q, tt), tt, parts, passed)
+    to = ((κ, tt), (q, tt), tt, fields, passed)
 
     abbrev Passed : SProp 𝓤
-    Passed = onEntry 𝓤 H A line.signature (κ, tt) (q, tt) parts passed
+    Passed = onEntry 𝓤 H A line.signature (κ, tt) (q, tt) fields passed
 
     -- the lifetime's token, and what the walker, a line and a position own
     abbrev token : Item 𝓤
@@ -141,10 +138,10 @@ module _ {M : Type 1} (𝓤 : URA M) (H : Heap 𝓤) (A : Atoms 𝓤) (W : Given
     OwnNext n = PositionT .own n (position-vals n)
 
     line-asked : ent 𝓤 Passed (LineAt .pre (to, tt))
-    line-asked = qed W (token ∷ ‵ (owns (R ∷ PositionT ∷ []) parts passed) ∷ []) ∵ join ! $ frame ! $ done !
+    line-asked = qed W (token ∷ ‵ (owns (R ∷ PositionT ∷ []) fields passed) ∷ []) ∵ join ! $ frame ! $ done !
 
     next-asked : ent 𝓤 Passed (NextAt .pre (to, tt))
-    next-asked = qed W (token ∷ ‵ (owns (R ∷ PositionT ∷ []) parts passed) ∷ []) ∵ join ! $ frame ! $ done !
+    next-asked = qed W (token ∷ ‵ (owns (R ∷ PositionT ∷ []) fields passed) ∷ []) ∵ join ! $ frame ! $ done !
 
     -- what the walker owns gives what a callee asks, and is kept
     apart : (Pre : SProp 𝓤) → ent 𝓤 Passed Pre → ent 𝓤 (⋆ 𝓤 H A (token ∷ ‵ Own ∷ [])) (sep 𝓤 Pre (sem 𝓤 H A Own))
