@@ -21,7 +21,7 @@ use Rattle.ticket.proofs.Main.{accepted-length, accepted-few, line-card}
 use Rattle.planner.specs.Plan.{planFor}
 use Rattle.printing.specs.Printed.{frameLine, frameLines, planText, textOf, printed, refusalText}
 use Rattle.printing.specs.Put.{Made, Put}
-use Rattle.counting.proofs.Lists.{sets-append, sets-length, two-bytes}
+use Rattle.counting.proofs.Parts.{sets-append, sets-length, two-bytes}
 use Rattle.printing.proofs.Outcome.{room}
 
 -- FF, the number and the end of the line

@@ -7,7 +7,7 @@ use native.Mathlib.Omega.{arith}
 use lib.ListN.{length, set, length-set, length-append}
 use lib.Seq.{sets}
 use Rattle.text.proofs.Hex.{length-hex}
-use Rattle.counting.proofs.Lists.{sets-append, sets-length}
+use Rattle.counting.proofs.Parts.{sets-append, sets-length}
 use Rattle.text.specs.Hex.{hex, endOfLine}
 use Rattle.text.specs.Text.{endByte}
 

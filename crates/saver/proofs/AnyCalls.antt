@@ -8,7 +8,7 @@ use native.Mathlib.Decide.{ℕ-discrete}
 use lib.ListN.{getD, drop}
 use borrow.Author.Tests.{eq-eqb, ne-eqb}
 use Rattle.counting.specs.Frames.{cardOf}
-use Rattle.counting.proofs.Lists.{drop-head}
+use Rattle.counting.proofs.Parts.{drop-head}
 use Rattle.schedule.specs.Greedy.{Plan, oneCycle}
 use Rattle.schedule.specs.Greedy as greedy
 use Rattle.header.specs.Limits.{maxCards}

@@ -10,7 +10,7 @@ use lib.ListN.{length, drop, replicate, length-set, length-append, length-drop, 
 use borrow.Author.Tests.{leb-true}
 use Rattle.counting.specs.Count.{written}
 use Rattle.counting.proofs.Bits.{by-test, and-left, and-right}
-use Rattle.counting.proofs.Lists.{one-more-below}
+use Rattle.counting.proofs.Parts.{one-more-below}
 use Rattle.header.specs.Limits.{maxCards, maxPool, maxFrames}
 use Rattle.greedy_pool.proofs.Left.{left-shorter, left-same-length, left-all}
 use Rattle.saver.specs.declared.Saver.{Saver}

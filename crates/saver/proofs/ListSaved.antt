@@ -10,7 +10,7 @@ use native.Mathlib.Decide.{decLt}
 use lib.ListN.{length, getD, drop, replicate}
 use borrow.Author.Tests.{ne-eqb}
 use Rattle.counting.specs.Frames.{cardOf}
-use Rattle.counting.proofs.Lists.{drop-head}
+use Rattle.counting.proofs.Parts.{drop-head}
 use Rattle.schedule.specs.Greedy.{Plan, inPool, oneCycle, saveFirst, flush}
 use Rattle.schedule.specs.Greedy as greedy
 use Rattle.header.specs.Limits.{maxFrames}

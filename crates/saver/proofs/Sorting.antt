@@ -13,14 +13,15 @@ use borrow.Author.Tests.{eq-eqb, ne-eqb}
 use Rattle.counting.specs.Count.{tabulate, written}
 use Rattle.counting.specs.Frames.{cardOf}
 use Rattle.counting.specs.declared.Position.{Position}
-use Rattle.counting.proofs.Lists.{getD-tabulate, tabulate-cong, set-tabulate, written-set}
+use Rattle.counting.proofs.Lists.{getD-tabulate, tabulate-cong, set-tabulate}
+use Rattle.counting.proofs.Parts.{written-set}
 use Rattle.header.specs.Limits.{maxCards, maxPool}
 use Rattle.greedy_pool.specs.Pool.{none, isOldest, left, writes}
 use Rattle.greedy_pool.proofs.Left.{left-no-longer, left-same-length, writes-none}
 use Rattle.saver.specs.declared.Saver.{Saver}
 use Rattle.saver.specs.Calls.{position, cycle, numbers, cycleOn}
 use Rattle.saver.specs.Formed.{Formed}
-use Rattle.counting.proofs.Lists.{map-set}
+use Rattle.counting.proofs.Parts.{map-set}
 
 -- `entries` has what each card writes of those frames; the n others stand at the front of the new tables.
 pub record Sorting (s : Saver) (entries : List Position) (cards : List ℕ) (positions : List Position) (n i : ℕ) : Type 0 where

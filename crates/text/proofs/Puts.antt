@@ -9,7 +9,8 @@ use native.Mathlib.Nat.{add-zero, add-suc, div-one, div-div-eq-div-mul, pow-suc,
 use lib.Arith.{mod-mul}
 use lib.ListN.{getD, set}
 use lib.Seq.{sets}
-use Rattle.counting.proofs.Lists.{getD-tabulate, sets-append}
+use Rattle.counting.proofs.Lists.{getD-tabulate}
+use Rattle.counting.proofs.Parts.{sets-append}
 use Rattle.text.specs.Hex.{digitOf, digitTexts, hex}
 use Rattle.text.proofs.Hex.{length-hex, hex-step}
 

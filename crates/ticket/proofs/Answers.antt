@@ -11,7 +11,8 @@ use lib.Dec.{ltb}
 use Rattle.counting.specs.Count.{tabulate}
 use Rattle.counting.specs.Frames.{cardOf}
 use Rattle.counting.proofs.Bits.{by-cases}
-use Rattle.counting.proofs.Lists.{from-place, drop-replicate, length-tabulate}
+use Rattle.counting.proofs.Lists.{length-tabulate}
+use Rattle.counting.proofs.Parts.{from-place, drop-replicate}
 use Rattle.header.specs.Heading.{headerBytes, heading}
 use Rattle.header.specs.Numbers.{numbersOf}
 use Rattle.header.specs.Limits.{maxCards, maxFrames}

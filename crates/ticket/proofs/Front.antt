@@ -7,7 +7,8 @@ use native.Mathlib.Omega.{arith}
 use lib.ListN.{take, drop}
 use lib.Seq.{getD-take}
 use Rattle.counting.specs.Count.{tabulate}
-use Rattle.counting.proofs.Lists.{tabulate-cong, drop-take}
+use Rattle.counting.proofs.Lists.{tabulate-cong}
+use Rattle.counting.proofs.Parts.{drop-take}
 use Rattle.text.specs.Text.{digits, number, isLine}
 use Rattle.header.specs.Heading.{headerDigits, headerBytes, headerOf, heading}
 use Rattle.header.specs.Limits.{maxFrames}
@@ -15,7 +16,7 @@ use Rattle.header.specs.declared.Answer.{Answer}
 use Rattle.header.specs.declared.Answer.the-variants.{Accepted, Refused}
 use Rattle.ticket.specs.Ticket.{parsePart, parse, lineBytes, lineDigits, cardAt, lineFault, linesFault, partFault}
 use Rattle.ticket.proofs.Answers.{few-frames}
-use Rattle.counting.proofs.Lists.{below-take}
+use Rattle.counting.proofs.Parts.{below-take}
 
 module _ (n : ℕ) (s : List ℕ) (at : ℕ) where
   number-front : (k : ℕ) → at + k ≤ n → number (take n s) at k ≡ number s at k

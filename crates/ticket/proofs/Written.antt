@@ -10,7 +10,7 @@ use lib.Seq.{take-add, take-suc, take-all, getD-drop, drop-drop}
 use borrow.Author.Tests.{lt-ltb}
 use Rattle.counting.specs.Count.{tabulate}
 use Rattle.counting.specs.Frames.{cardOf}
-use Rattle.counting.proofs.Lists.{parts-meet}
+use Rattle.counting.proofs.Parts.{parts-meet}
 use Rattle.text.specs.Hex.{hex, endOfLine}
 use Rattle.text.specs.Text.{digits, number, Line}
 use Rattle.text.proofs.Digits.{line-digits, field-digits}
