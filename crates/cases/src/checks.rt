@@ -6,12 +6,11 @@ use crate::tables::Show;
 use checker::Verdict;
 use plan_run::Answer;
 use plan_run::Outcome;
-use plan_run::Run;
 
 fn at_fault(name: &[u8], position: u16) {
     output::text(name);
-    output::number(position as u64, 6);
-    output::spaces(12);
+    output::number(position, 6);
+    output::pad(0, 12);
 }
 
 // The verdict; the position at fault, or the number of a refusal; T and the peak.
@@ -19,8 +18,8 @@ pub(crate) fn verdict(v: Verdict) {
     match v {
         Verdict::Valid(cycles, peak) => {
             output::text(b"   valid               ");
-            output::number(cycles.0 as u64, 6);
-            output::number(peak as u64, 6);
+            output::number(cycles.0, 6);
+            output::number(peak, 6);
         }
         Verdict::NoCycle(p) => at_fault(b"   cycle 0       ", p.0),
         Verdict::SharedCard(p) => at_fault(b"   shares a card ", p.0),
@@ -29,41 +28,28 @@ pub(crate) fn verdict(v: Verdict) {
     }
 }
 
-// The cycles needed, 0 where the run is unfinished; frames handed over, cycles ended, peak; whether it broke off.
-fn outcome(r: Run) {
-    let end = r.outcome;
-    let ended = r.ended;
-    match end {
-        Outcome::Complete(needed) => {
-            output::text(b"   complete  ");
-            output::number(needed.0 as u64, 5);
-        }
-        Outcome::Unfinished => output::text(b"   unfinished     "),
-    }
-    output::number(r.delivered as u64, 6);
-    output::number(ended.0 as u64, 6);
-    output::number(r.peak as u64, 6);
-    output::yes_or_no(r.broken);
-}
-
+// The cycles needed, none where the run is unfinished; frames handed over, cycles ended, peak; whether it broke off. Or the number of a refusal.
 pub(crate) fn run(a: Answer) {
     match a {
-        Answer::Ran(r) => outcome(r),
+        Answer::Ran(r) => {
+            let end = r.outcome;
+            match end {
+                Outcome::Complete(needed) => {
+                    output::text(b"   complete  ");
+                    output::number(needed.0, 5);
+                }
+                Outcome::Unfinished => output::text(b"   unfinished     "),
+            }
+            output::number(r.delivered, 6);
+            output::number(r.ended.0, 6);
+            output::number(r.peak, 6);
+            output::yes_or_no(r.broken);
+        }
         Answer::Refused(k) => {
             output::text(b"   refused   ");
-            output::number(k as u64, 5);
+            output::small(k, 5);
         }
     }
-}
-
-fn cycle(b: u8) -> u16 {
-    if b < b'0' {
-        return 0;
-    }
-    if b'9' < b {
-        return 65535;
-    }
-    (b - b'0') as u16
 }
 
 pub(crate) fn read_plan(text: &[u8], plan: &mut [u16]) {
@@ -73,15 +59,17 @@ pub(crate) fn read_plan(text: &[u8], plan: &mut [u16]) {
         let at = i;
         i += 1;
         if at < plan.len() {
-            plan[at] = cycle(text[at]);
+            plan[at] = tables::number(text[at]);
         }
     }
 }
 
-// With the first n cycles of the plan.
-fn check_and_run(t: &[u8], plan: &[u16], n: usize) {
+pub(crate) fn checked(t: &[u8], text: &[u8]) {
+    let mut plan = [0u16; 4];
     let start: usize = 0;
-    if n <= plan.len() {
+    let n = text.len();
+    read_plan(text, &mut plan);
+    if n <= 4 {
         let given = &plan[start..n];
         output::ticket(t);
         output::list(given, 4, 6);
@@ -90,70 +78,56 @@ fn check_and_run(t: &[u8], plan: &[u16], n: usize) {
     }
 }
 
-pub(crate) fn checked(t: &[u8], text: &[u8]) {
-    let mut plan = [0u16; 4];
-    read_plan(text, &mut plan);
-    check_and_run(t, &plan, text.len());
-}
-
 pub(crate) fn all() {
-    output::text(
+    tables::each(
         b"\nPLANS CHECKED AND RUN\n\
         checker::check judges a plan: at is the position at fault, or the number of a refusal. plan_run::run_plan runs the same plan on the dock.\n\n\
         \x20                                                       check                                run_plan            handed\n\
-        ticket                          plan                       verdict            at     T  peak   outcome    needed  over ended  peak  broken\n",
-    );
-    tables::each(
-        b"01000200020003\n00\n00\n01\n 121;\
-        01000200020003\n00\n00\n01\n 212;\
-        01000200030003\n00\n00\n01\n 212;\
-        01000200010003\n00\n00\n01\n 122;\
-        01000200010003\n00\n00\n01\n 112;\
-        01000200020003\n00\n00\n01\n 112;\
-        01000200020003\n00\n00\n01\n 133;\
-        01000200020003\n00\n00\n01\n 122;\
-        01000200010003\n00\n00\n01\n 123;\
-        01000200020004\n00\n00\n00\n01\n 1233;\
-        01000300030004\n00\n01\n02\n00\n 1222;\
-        01000300020004\n00\n01\n02\n00\n 1122;\
-        01000200020003\n00\n00\n01\n 012;\
-        01000200020003\n00\n00\n01\n 102;\
-        01000200010003\n00\n00\n01\n 102;\
-        01000200030003\n00\n00\n01\n 120;\
-        01000200030003\n00\n00\n01\n 110;\
-        01000200010003\n00\n00\n01\n 12L;\
-        01000200030003\n00\n00\n01\n L12;\
-        01000200020003\n00\n00\n01\n L12;\
-        01000200020000\n ;",
-        Show::Checked,
-    );
-    output::text(b"\n");
-    tables::each(
-        b"01010200020003\n00\n00\n01\n 122;\
-        01010300030004\n00\n01\n02\n00\n 1112;\
-        01010200020003\n00\n00\n01\n 212;\
-        01010200010003\n00\n00\n01\n 212;\
-        01010200020003\n00\n00\n01\n 121;\
-        01010200030003\n00\n00\n01\n 121;\
-        01010200020003\n00\n00\n01\n 112;\
-        01010200010003\n00\n00\n01\n 112;\
-        01010200010002\n00\n01\n 11;\
-        01010200020003\n00\n00\n01\n 102;\
-        01010200030003\n00\n00\n01\n 120;\
-        01010200020003\n00\n00\n01\n L1L;\
-        01010200020000\n ;",
-        Show::Checked,
-    );
-    output::text(b"\n");
-    tables::each(
-        b"01000200020003\n00\n00\n01\n 12;\
-        01000200020003\n00\n00\n01\n 1222;\
-        01010200020003\n00\n00\n01\n 12;\
-        01010200020003\n00\n00\n01\n ;\
-        01000200020000\n 1;\
-        01020200020003\n00\n00\n01\n 122;\
-        01020200020003\n00\n00\n01\n 12;\
-        01020200020000\n ;",
+        ticket                          plan                       verdict            at     T  peak   outcome    needed  over ended  peak  broken\n#\
+        01000200020003\n00\n00\n01\n 121|\
+        01000200020003\n00\n00\n01\n 212|\
+        01000200030003\n00\n00\n01\n 212|\
+        01000200010003\n00\n00\n01\n 122|\
+        01000200010003\n00\n00\n01\n 112|\
+        01000200020003\n00\n00\n01\n 112|\
+        01000200020003\n00\n00\n01\n 133|\
+        01000200020003\n00\n00\n01\n 122|\
+        01000200010003\n00\n00\n01\n 123|\
+        01000200020004\n00\n00\n00\n01\n 1233|\
+        01000300030004\n00\n01\n02\n00\n 1222|\
+        01000300020004\n00\n01\n02\n00\n 1122|\
+        01000200020003\n00\n00\n01\n 012|\
+        01000200020003\n00\n00\n01\n 102|\
+        01000200010003\n00\n00\n01\n 102|\
+        01000200030003\n00\n00\n01\n 120|\
+        01000200030003\n00\n00\n01\n 110|\
+        01000200010003\n00\n00\n01\n 12L|\
+        01000200030003\n00\n00\n01\n L12|\
+        01000200020003\n00\n00\n01\n L12|\
+        01000200020000\n |\
+        \n#\
+        01010200020003\n00\n00\n01\n 122|\
+        01010300030004\n00\n01\n02\n00\n 1112|\
+        01010200020003\n00\n00\n01\n 212|\
+        01010200010003\n00\n00\n01\n 212|\
+        01010200020003\n00\n00\n01\n 121|\
+        01010200030003\n00\n00\n01\n 121|\
+        01010200020003\n00\n00\n01\n 112|\
+        01010200010003\n00\n00\n01\n 112|\
+        01010200010002\n00\n01\n 11|\
+        01010200020003\n00\n00\n01\n 102|\
+        01010200030003\n00\n00\n01\n 120|\
+        01010200020003\n00\n00\n01\n L1L|\
+        01010200020000\n |\
+        \n#\
+        01000200020003\n00\n00\n01\n 12|\
+        01000200020003\n00\n00\n01\n 1222|\
+        01010200020003\n00\n00\n01\n 12|\
+        01010200020003\n00\n00\n01\n |\
+        01000200020000\n 1|\
+        01020200020003\n00\n00\n01\n 122|\
+        01020200020003\n00\n00\n01\n 12|\
+        01020200020000\n |",
         Show::Checked,
     );
 }

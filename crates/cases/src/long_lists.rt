@@ -6,19 +6,11 @@ use crate::tables;
 use crate::tables::Show;
 
 // The card of frame i, by the first letter of the layout: one card, round robin, or blocks.
-fn card_of(layout: u8, i: u16) -> u8 {
-    if layout == b'r' {
-        return (i % 32) as u8;
-    }
-    if layout == b'b' {
-        return (i / 128 % 32) as u8;
-    }
-    0
-}
-
-fn put(text: &mut [u8], at: usize, b: u8) {
-    if at < text.len() {
-        text[at] = b;
+fn card_of(layout: u8, i: usize) -> u8 {
+    match layout {
+        b'r' => (i % 32) as u8,
+        b'b' => (i / 128 % 32) as u8,
+        _ => 0,
     }
 }
 
@@ -26,27 +18,26 @@ fn digit(d: u8) -> u8 {
     if d < 10 { b'0' + d } else { b'7' + d % 16 }
 }
 
-// The line of frame i.
-fn put_line(text: &mut [u8], i: u16, card: u8) {
-    let at = 15 + 3 * (i as usize);
-    put(text, at, digit(card / 16));
-    put(text, at + 1, digit(card % 16));
-    put(text, at + 2, b'\n');
-}
-
-fn put_lines(text: &mut [u8], layout: u8, n: u16) {
-    let mut i: u16 = 0;
-    while i < n {
-        put_line(text, i, card_of(layout, i));
-        i += 1;
+// Byte i of a ticket with this header and layout.
+fn byte_of(header: &[u8], layout: u8, i: usize) -> u8 {
+    if i < header.len() {
+        return header[i];
+    }
+    let past = i - header.len();
+    let card = card_of(layout, past / 3);
+    match past % 3 {
+        0 => digit(card / 16),
+        1 => digit(card % 16),
+        _ => b'\n',
     }
 }
 
-fn put_header(text: &mut [u8], header: &[u8]) {
-    let n = header.len();
+// A ticket with this header and layout.
+pub(crate) fn put_ticket(text: &mut [u8], header: &[u8], layout: u8) {
+    let n = text.len();
     let mut i: usize = 0;
     while i < n {
-        put(text, i, header[i]);
+        text[i] = byte_of(header, layout, i);
         i += 1;
     }
 }
@@ -69,47 +60,37 @@ fn checksum(plan: &[u16]) -> u64 {
     sum
 }
 
-fn plan(t: &[u8], buffer: &mut [u16]) {
-    plans::answer(planner::plan(t, buffer));
-    output::number(checksum(buffer), 10);
-    checks::verdict(checker::check(t, buffer));
-    checks::run(plan_run::run_plan(t, buffer));
-}
-
-// A ticket of 4,096 frames with this header and layout.
-pub(crate) fn put_ticket(text: &mut [u8], header: &[u8], layout: u8) {
-    put_header(text, header);
-    put_lines(text, layout, 4096);
-}
-
 pub(crate) fn planned(header: &[u8], layout: &[u8]) {
     let mut text = [0u8; 12303];
     let mut buffer = [0u16; 4096];
     output::left(layout, 12);
     output::left(header, 17);
     put_ticket(&mut text, header, tables::byte_at(layout, 0));
-    plan(&text, &mut buffer);
+    let t: &[u8] = &text;
+    plans::answer(planner::plan(t, &mut buffer));
+    let plan: &[u16] = &buffer;
+    output::size(checksum(plan) as usize, 10);
+    checks::verdict(checker::check(t, plan));
+    checks::run(plan_run::run_plan(t, plan));
 }
 
 pub(crate) fn all() {
-    output::text(
+    tables::each(
         b"\nLONG LISTS\n\
         4,096 frames on 32 cards. Frame i is on card 0 (one card), on card i modulo 32 (round robin), or on card i / 128 (blocks).\n\
         The checksum of a plan is the sum of (4,096 - i) times the cycle of frame i, over all i, modulo 65,521. A plan is run whatever\n\
         its mode; only the plan of a read is made for it.\n\n\
         \x20                                                     check                              run_plan          handed\n\
-        layout      header           plan          checksum   verdict           at     T  peak   outcome   needed  over ended  peak  broken\n",
-    );
-    tables::each(
-        b"01002000011000\n one card;01012000011000\n one card;01022000011000\n one card;\
-        01002000C01000\n one card;01012000C01000\n one card;01022000C01000\n one card;\
-        01002004001000\n one card;01012004001000\n one card;01022004001000\n one card;\
-        01002000011000\n round robin;01012000011000\n round robin;01022000011000\n round robin;\
-        01002000C01000\n round robin;01012000C01000\n round robin;01022000C01000\n round robin;\
-        01002004001000\n round robin;01012004001000\n round robin;01022004001000\n round robin;\
-        01002000011000\n blocks;01012000011000\n blocks;01022000011000\n blocks;\
-        01002000C01000\n blocks;01012000C01000\n blocks;01022000C01000\n blocks;\
-        01002004001000\n blocks;01012004001000\n blocks;01022004001000\n blocks;",
+        layout      header           plan          checksum   verdict           at     T  peak   outcome   needed  over ended  peak  broken\n#\
+        01002000011000\n one card|01012000011000\n one card|01022000011000\n one card|\
+        01002000C01000\n one card|01012000C01000\n one card|01022000C01000\n one card|\
+        01002004001000\n one card|01012004001000\n one card|01022004001000\n one card|\
+        01002000011000\n round robin|01012000011000\n round robin|01022000011000\n round robin|\
+        01002000C01000\n round robin|01012000C01000\n round robin|01022000C01000\n round robin|\
+        01002004001000\n round robin|01012004001000\n round robin|01022004001000\n round robin|\
+        01002000011000\n blocks|01012000011000\n blocks|01022000011000\n blocks|\
+        01002000C01000\n blocks|01012000C01000\n blocks|01022000C01000\n blocks|\
+        01002004001000\n blocks|01012004001000\n blocks|01022004001000\n blocks|",
         Show::LongList,
     );
 }

@@ -16,34 +16,29 @@ pub(crate) fn byte(b: u8) {
     text(&one);
 }
 
-pub(crate) fn spaces(n: usize) {
-    let mut i: usize = 0;
-    while i < n {
+// The rest of a column of which so many places are taken.
+pub(crate) fn pad(taken: usize, width: usize) {
+    let mut i = taken;
+    while i < width {
         byte(b' ');
         i += 1;
     }
 }
 
-// The rest of a column of which so many places are taken.
-fn pad(taken: usize, width: usize) {
-    if taken < width {
-        spaces(width - taken);
-    }
-}
-
-// A number at the right of a column.
-pub(crate) fn number(n: u64, width: usize) {
+// A number at the right of a column, by its type.
+pub(crate) fn size(n: usize, width: usize) {
     let mut digits = [0u8; 20];
-    pad(io::decimal(n, &mut digits), width);
-    io::print_decimal(STDOUT_FILENO, n);
+    let whole = n as u64;
+    pad(io::decimal(whole, &mut digits), width);
+    io::print_decimal(STDOUT_FILENO, whole);
 }
 
-fn wide(n: u16) -> u64 {
-    n as u64
+pub(crate) fn number(n: u16, width: usize) {
+    size(n as usize, width);
 }
 
-fn small_wide(n: u8) -> u64 {
-    n as u64
+pub(crate) fn small(n: u8, width: usize) {
+    size(n as usize, width);
 }
 
 // The first n places of a list, each at the right of a column; blank past the end of the list.
@@ -51,9 +46,9 @@ pub(crate) fn list(a: &[u16], n: usize, width: usize) {
     let mut i: usize = 0;
     while i < n {
         if i < a.len() {
-            number(wide(a[i]), width);
+            number(a[i], width);
         } else {
-            spaces(width);
+            pad(0, width);
         }
         i += 1;
     }
@@ -63,9 +58,9 @@ pub(crate) fn small_list(a: &[u8], n: usize, width: usize) {
     let mut i: usize = 0;
     while i < n {
         if i < a.len() {
-            number(small_wide(a[i]), width);
+            small(a[i], width);
         } else {
-            spaces(width);
+            pad(0, width);
         }
         i += 1;
     }
@@ -79,15 +74,27 @@ pub(crate) fn yes_or_no(yes: bool) {
     }
 }
 
-// A number that belongs to a card, as card:number.
-pub(crate) fn of_card(card: usize, n: u16) {
+// A number that belongs to a card, as card:number, unless it is the number that stands for none. Whether any was shown so far.
+pub(crate) fn of_card(shown: bool, card: usize, n: u16, none: u16) -> bool {
+    if n == none {
+        return shown;
+    }
     byte(b' ');
-    number(card as u64, 0);
+    size(card, 0);
     byte(b':');
-    number(n as u64, 0);
+    number(n, 0);
+    true
 }
 
-fn ticket_bytes(t: &[u8]) {
+// The end of such numbers.
+pub(crate) fn of_cards(shown: bool) {
+    if !shown {
+        text(b" none");
+    }
+}
+
+// A text at the left of a column, with / for the end byte.
+pub(crate) fn left(t: &[u8], width: usize) {
     let n = t.len();
     let mut i: usize = 0;
     while i < n {
@@ -99,12 +106,7 @@ fn ticket_bytes(t: &[u8]) {
             byte(b);
         }
     }
-}
-
-// A text at the left of a column, with / for the end byte.
-pub(crate) fn left(t: &[u8], width: usize) {
-    ticket_bytes(t);
-    pad(t.len(), width);
+    pad(n, width);
 }
 
 // A ticket in its column.

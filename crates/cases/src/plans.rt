@@ -9,68 +9,59 @@ pub(crate) fn answer(a: Answer) {
     match a {
         Answer::Planned(cycles) => {
             output::text(b"T      ");
-            output::number(cycles.0 as u64, 5);
+            output::number(cycles.0, 5);
         }
         Answer::Refused(k) => {
             output::text(b"refused");
-            output::number(k as u64, 5);
+            output::small(k, 5);
         }
     }
 }
 
-fn plan(t: &[u8], buffer: &mut [u16]) {
-    output::ticket(t);
-    answer(planner::plan(t, buffer));
-    output::list(buffer, buffer.len(), 4);
-}
-
-// With a buffer of five places.
-pub(crate) fn planned(t: &[u8]) {
+// With a buffer of five places, and one less for each dot.
+pub(crate) fn planned(t: &[u8], dots: &[u8]) {
     let mut buffer = [9u16; 5];
-    plan(t, &mut buffer);
-}
-
-// With a buffer of three places.
-pub(crate) fn planned_short(t: &[u8]) {
-    let mut buffer = [9u16; 3];
-    plan(t, &mut buffer);
+    let start: usize = 0;
+    let less = dots.len();
+    if less <= 5 {
+        let places = 5 - less;
+        output::ticket(t);
+        let lent = &mut buffer[start..places];
+        answer(planner::plan(t, lent));
+        output::list(lent, places, 4);
+    }
 }
 
 pub(crate) fn all() {
-    output::text(
+    tables::each(
         b"\nPLANS\n\
         planner::plan fills the first places of a lent buffer with the frames' cycles and answers T. Later places keep their content, and all\n\
         do beside a refusal. The buffer is lent filled with 9, first with five places, then with three.\n\n\
-        ticket                          answer         buffer afterwards\n",
-    );
-    tables::each(
-        b"01000200020003\n00\n00\n01\n;\
-        01010200020003\n00\n00\n01\n;\
-        01000200010003\n00\n00\n01\n;\
-        01000200020004\n00\n00\n00\n01\n;\
-        01020200020004\n00\n00\n00\n01\n;\
-        01000300030004\n00\n01\n02\n00\n;\
-        01000300020004\n00\n01\n02\n00\n;\
-        01010300030004\n00\n01\n02\n00\n;\
-        01000200020000\n;\
-        01010200020000\n;\
-        01020200020000\n;\
-        01020200020002\n00\n00\n;\
-        01020200020003\n00\n00\n01\n;\
-        01000204000003\n00\n00\n01\n;\
-        01002000010002\n1F\n00\n;\
-        01000200020005\n00\n00\n01\n00\n01\n;\
-        01010200020005\n00\n00\n01\n00\n01\n;",
+        ticket                          answer         buffer afterwards\n#\
+        01000200020003\n00\n00\n01\n|\
+        01010200020003\n00\n00\n01\n|\
+        01000200010003\n00\n00\n01\n|\
+        01000200020004\n00\n00\n00\n01\n|\
+        01020200020004\n00\n00\n00\n01\n|\
+        01000300030004\n00\n01\n02\n00\n|\
+        01000300020004\n00\n01\n02\n00\n|\
+        01010300030004\n00\n01\n02\n00\n|\
+        01000200020000\n|\
+        01010200020000\n|\
+        01020200020000\n|\
+        01020200020002\n00\n00\n|\
+        01020200020003\n00\n00\n01\n|\
+        01000204000003\n00\n00\n01\n|\
+        01002000010002\n1F\n00\n|\
+        01000200020005\n00\n00\n01\n00\n01\n|\
+        01010200020005\n00\n00\n01\n00\n01\n|\
+        01000200020003\n00\n00\n01\n ..|\
+        01000200020004\n00\n00\n00\n01\n ..|\
+        01010200020004\n00\n00\n00\n01\n ..|\
+        01020200020004\n00\n00\n00\n01\n ..|\
+        01000200020004\n00\n00\n00\n ..|\
+        01000200020004\n00\n00\n00\n02\n ..|\
+        01000200020004\n00\n00\n00\n01\n00\n ..|",
         Show::Planned,
-    );
-    tables::each(
-        b"01000200020003\n00\n00\n01\n;\
-        01000200020004\n00\n00\n00\n01\n;\
-        01010200020004\n00\n00\n00\n01\n;\
-        01020200020004\n00\n00\n00\n01\n;\
-        01000200020004\n00\n00\n00\n;\
-        01000200020004\n00\n00\n00\n02\n;\
-        01000200020004\n00\n00\n00\n01\n00\n;",
-        Show::PlannedShort,
     );
 }

@@ -1,4 +1,5 @@
 // Refused tickets: one line for each, with the number that every call gives and what stands beside it.
+use crate::docks;
 use crate::output;
 use crate::tables;
 use crate::tables::Show;
@@ -39,30 +40,21 @@ fn reader(t: &[u8], position: u16) {
     let card = ticket.card;
     let line = ticket::line(t, Position(position));
     let count = ticket::counts(t);
-    output::number(number_of_header(header::heading(t)) as u64, 8);
-    output::number(number_of_header(answer) as u64, 8);
-    output::number(ticket::refusal(t) as u64, 8);
-    output::number(ticket::line_refusal(t, Position(position)) as u64, 8);
-    output::number(line.len() as u64, 6);
+    output::small(number_of_header(header::heading(t)), 8);
+    output::small(number_of_header(answer), 8);
+    output::small(ticket::refusal(t), 8);
+    output::small(ticket::line_refusal(t, Position(position)), 8);
+    output::size(line.len(), 6);
     output::small_list(&card, 2, 3);
     output::list(&count, 2, 3);
 }
 
-// The numbers of a dock: frames, pool, handed over, held, cycles ended.
-fn dock_numbers(d: dock::Dock) {
-    output::number(d.frames as u64, 3);
-    output::number(d.pool as u64, 3);
-    output::number(d.delivered as u64, 3);
-    output::number(d.holding as u64, 3);
-    output::number(d.ended as u64, 3);
-}
-
 // The numbers of check and run_plan, between those of plan and start.
 fn numbers(t: &[u8], plan: &[u16], planned: planner::Answer, started: u8) {
-    output::number(number_of_plan(planned) as u64, 6);
-    output::number(number_of_check(checker::check(t, plan)) as u64, 6);
-    output::number(number_of_run(plan_run::run_plan(t, plan)) as u64, 6);
-    output::number(started as u64, 6);
+    output::small(number_of_plan(planned), 6);
+    output::small(number_of_check(checker::check(t, plan)), 6);
+    output::small(number_of_run(plan_run::run_plan(t, plan)), 6);
+    output::small(started, 6);
 }
 
 // The calls that use a ticket: plan, check, run_plan, start; the buffer, the memory and the dock afterwards.
@@ -72,7 +64,7 @@ fn users(t: &[u8], plan: &[u16], buffer: &mut [u16], memory: &mut [u8]) {
     numbers(t, plan, planned, started.refusal);
     output::list(buffer, 3, 3);
     output::small_list(memory, 3, 3);
-    dock_numbers(started.dock);
+    docks::numbers(started.dock, 3);
 }
 
 // Every call, with a position, a buffer, a plan and memory that suit three frames.
@@ -95,71 +87,62 @@ pub(crate) fn too_short(t: &[u8]) {
     users(t, &plan, &mut buffer, &mut memory);
 }
 
-fn head() {
-    output::text(
-        b"\x20                                                        line_   line  first first                run_        lent     lent       start's\n\
-        ticket                          heading   parse refusal refusal bytes cards counts plan check  plan start  buffer   memory   dock numbers\n",
-    );
-}
-
 pub(crate) fn all() {
-    output::text(
+    tables::each(
         b"\nREFUSED TICKETS\n\
         Each call is given the ticket and gives the number of its refusal, 0 for none. Beside it: the bytes of the line; the first two cards\n\
         of parse; the first two counts; the buffer lent to plan, filled with 9; the memory lent to start, filled with 7; and start's dock\n\
-        (frames, pool, handed over, held, cycles ended). Position 0, plan 1 2 2, three places in the buffer and in memory.\n\n",
-    );
-    head();
-    tables::each(
-        b";\
-        \n;\
-        01000200020003;\
-        0100020002000G\n;\
-        0100020002000a\n;\
-        0100020002000:\n;\
-        0100020002000@\n;\
-        010002000200030\n;\
-        0203000000000G\n;\
-        02030000000000\n;\
-        00000200020000\n;\
-        01030200020000\n;\
-        01FF0000001001\n;\
-        01000000020000\n;\
-        01002100020000\n;\
-        01000000001001\n;\
-        01000200000000\n;\
-        01000204010000\n;\
-        01000200001001\n;\
-        01000200021001\n;\
-        01000200021001\n0G\n;\
-        0100020002FFFF\n;\
-        01000200021000\n;\
-        01000200020003\n00\n00\n;\
-        01000200020003\n00\n00\n01;\
-        01000200020003\n000\n0\n01\n;\
-        01000200020003\n00\n0G\n02\n;\
-        01000200020003\n0a\n02\n01\n;\
-        01000200020001\n0G\n00\n;\
-        01000200020003\n00\n02\n0G\n;\
-        01000200020003\n02\n;\
-        01000200020001\n02\n00\n;\
-        01002000020001\n20\n;\
-        01000100020001\n01\n;\
-        01000200020003\n00\n00\n01\n00\n;\
-        01000200020000\n0;\
-        01000200020000\n\n;",
+        (frames, pool, handed over, held, cycles ended). Position 0, plan 1 2 2, three places in the buffer and in memory.\n\n\
+        \x20                                                        line_   line  first first                run_        lent     lent       start's\n\
+        ticket                          heading   parse refusal refusal bytes cards counts plan check  plan start  buffer   memory   dock numbers\n#\
+        |\
+        \n|\
+        01000200020003|\
+        0100020002000G\n|\
+        0100020002000a\n|\
+        0100020002000:\n|\
+        0100020002000@\n|\
+        010002000200030\n|\
+        0203000000000G\n|\
+        02030000000000\n|\
+        00000200020000\n|\
+        01030200020000\n|\
+        01FF0000001001\n|\
+        01000000020000\n|\
+        01002100020000\n|\
+        01000000001001\n|\
+        01000200000000\n|\
+        01000204010000\n|\
+        01000200001001\n|\
+        01000200021001\n|\
+        01000200021001\n0G\n|\
+        0100020002FFFF\n|\
+        01000200021000\n|\
+        01000200020003\n00\n00\n|\
+        01000200020003\n00\n00\n01|\
+        01000200020003\n000\n0\n01\n|\
+        01000200020003\n00\n0G\n02\n|\
+        01000200020003\n0a\n02\n01\n|\
+        01000200020001\n0G\n00\n|\
+        01000200020003\n00\n02\n0G\n|\
+        01000200020003\n02\n|\
+        01000200020001\n02\n00\n|\
+        01002000020001\n20\n|\
+        01000100020001\n01\n|\
+        01000200020003\n00\n00\n01\n00\n|\
+        01000200020000\n0|\
+        01000200020000\n\n|",
         Show::Refused,
     );
-    output::text(
-        b"\nThe ticket's own refusal comes before 10, 11, 12 and 16: position 3, and one place in the plan, the buffer and memory.\n\n",
-    );
-    head();
     tables::each(
-        b"01020200020003\n00\n00\n;\
-        01020200020003\n00\n02\n01\n;\
-        01020200020003\n00\n00\n01\n00\n;\
-        01020200020003\n00\n00\n01\n;\
-        01000200020003\n00\n00\n01\n;",
+        b"\nThe ticket's own refusal comes before 10, 11, 12 and 16: position 3, and one place in the plan, the buffer and memory.\n\n\
+        \x20                                                        line_   line  first first                run_        lent     lent       start's\n\
+        ticket                          heading   parse refusal refusal bytes cards counts plan check  plan start  buffer   memory   dock numbers\n#\
+        01020200020003\n00\n00\n|\
+        01020200020003\n00\n02\n01\n|\
+        01020200020003\n00\n00\n01\n00\n|\
+        01020200020003\n00\n00\n01\n|\
+        01000200020003\n00\n00\n01\n|",
         Show::TooShort,
     );
 }

@@ -1,122 +1,94 @@
-// The saver: each call on a line, with its answer and the record that comes back.
+// The saver: each call on a line, with its answer and the record that comes back. The calls are the saver's own, or those of the library.
+// A new saver is written by its cards and its pool: a digit, C for 32, D for 33, P for 1,024, Q for 1,025, L for the largest number. Then come
+// calls: c is a closing cycle, a digit a save on that card, L a save on card 255, and m 4,095 saves on card 0 that are not shown.
 ghost use Rattle.saver.specs.Calls.{Given};
 use crate::output;
+use crate::tables;
+use crate::tables::Show;
 use counting::Position;
+use firmware::savers::dockplan_saver_close;
+use firmware::savers::dockplan_saver_new;
+use firmware::savers::dockplan_saver_save;
 use saver::Answer;
 use saver::Saver;
 
-// The entry of a card that writes nothing.
-const NONE: u16 = 65535;
-
-// The entries of the cards that wrote, as card:position.
+// The entries of the cards that wrote, as card:position. The entry of a card that writes nothing is 65,535.
 fn entries(written: [Position; 32]) {
     let n: usize = 32;
     let mut i: usize = 0;
-    let mut none = true;
+    let mut shown = false;
     while i < n {
-        let card = i;
-        let p = written[i].0;
+        shown = output::of_card(shown, i, written[i].0, 65535);
         i += 1;
-        if p != NONE {
-            output::of_card(card, p);
-            none = false;
-        }
     }
-    if none {
-        output::text(b" none");
-    }
+    output::of_cards(shown);
 }
 
 // The refusal, the cycle made, the record, and what was written.
-pub(crate) fn answer(a: Answer) {
-    let cycle = a.cycle;
-    let written = a.written;
+fn answered(a: Answer) -> Saver
+    requires { ⌜ Given (a .saver) ⌝ }
+    ensures { λ r. ⌜ Given r ⌝ }
+{
     let s = a.saver;
-    output::number(a.refusal as u64, 8);
-    output::number(cycle.0 as u64, 8);
-    output::number(s.cards as u64, 8);
-    output::number(s.pool as u64, 8);
-    output::number(s.taken as u64, 8);
-    output::number(s.made.0 as u64, 8);
-    output::number(s.waiting as u64, 8);
+    let written = a.written;
+    output::small(a.refusal, 8);
+    output::number(a.cycle.0, 8);
+    output::small(s.cards, 8);
+    output::number(s.pool, 8);
+    output::number(s.taken, 8);
+    output::number(s.made.0, 8);
+    output::number(s.waiting, 8);
     output::yes_or_no(s.closing);
-    output::spaces(2);
+    output::pad(0, 2);
     entries(written);
-    output::byte(b'\n');
+    s
 }
 
-fn open(cards: u8, pool: u16) -> Saver
+fn open(cards: u8, pool: u16, library: bool) -> Saver
     ensures { λ r. ⌜ Given r ⌝ }
 {
     output::text(b"new  ");
-    output::number(cards as u64, 6);
-    output::number(pool as u64, 6);
-    let a = Saver::new(cards, pool);
-    answer(a);
-    a.saver
+    if library {
+        return answered(dockplan_saver_new(cards, pool));
+    }
+    output::small(cards, 6);
+    output::number(pool, 6);
+    answered(Saver::new(cards, pool))
 }
 
-fn save(s: Saver, card: u8) -> Saver
+fn save(s: Saver, card: u8, library: bool) -> Saver
     requires { ⌜ Given s ⌝ }
     ensures { λ r. ⌜ Given r ⌝ }
 {
-    output::text(b"save ");
-    output::number(card as u64, 6);
-    output::spaces(6);
-    let a = s.save(card);
-    answer(a);
-    a.saver
+    output::text(b"\nsave ");
+    if library {
+        return answered(dockplan_saver_save(s, card));
+    }
+    output::small(card, 6);
+    output::pad(0, 6);
+    answered(s.save(card))
 }
 
-fn close(s: Saver) -> Saver
+fn close(s: Saver, library: bool) -> Saver
     requires { ⌜ Given s ⌝ }
     ensures { λ r. ⌜ Given r ⌝ }
 {
-    output::text(b"close            ");
-    let a = s.close();
-    answer(a);
-    a.saver
-}
-
-// A call: c is a closing cycle, a digit a save on that card, and L a save on card 255.
-fn call(s: Saver, b: u8) -> Saver
-    requires { ⌜ Given s ⌝ }
-    ensures { λ r. ⌜ Given r ⌝ }
-{
-    if b == b'c' {
-        return close(s);
+    output::text(b"\nclose");
+    if library {
+        return answered(dockplan_saver_close(s));
     }
-    if b == b'L' {
-        return save(s, 255);
-    }
-    save(s, b % 16)
+    output::pad(0, 12);
+    answered(s.close())
 }
 
-fn calls(s: Saver, text: &[u8])
-    requires { ⌜ Given s ⌝ }
-{
-    let n = text.len();
-    let mut now = s;
-    let mut i: usize = 0;
-    while i < n {
-        now = call(now, text[i]);
-        i += 1;
-    }
-}
-
-// A new saver, and calls of it.
-fn series(cards: u8, pool: u16, text: &[u8]) {
-    calls(open(cards, pool), text);
-}
-
-// So many saves on card 0, which are not shown.
-fn many(s: Saver, n: u16) -> Saver
+// 4,095 saves on card 0, which are not shown.
+fn many(s: Saver) -> Saver
     requires { ⌜ Given s ⌝ }
     ensures { λ r. ⌜ Given r ⌝ }
 {
     let mut now = s;
     let mut i: u16 = 0;
-    while i < n {
+    while i < 4095 {
         let a = now.save(0);
         now = a.saver;
         i += 1;
@@ -124,35 +96,46 @@ fn many(s: Saver, n: u16) -> Saver
     now
 }
 
-fn new_savers() {
-    series(1, 1, b"");
-    series(32, 1024, b"");
-    series(0, 1, b"0Lc");
-    series(33, 1024, b"0c");
-    series(2, 0, b"0Lc");
-    series(2, 1025, b"0c");
-    series(0, 0, b"");
-    series(255, 65535, b"");
+fn call(s: Saver, b: u8, library: bool) -> Saver
+    requires { ⌜ Given s ⌝ }
+    ensures { λ r. ⌜ Given r ⌝ }
+{
+    match b {
+        b'c' => close(s, library),
+        b'm' => many(s),
+        _ => save(s, (tables::number(b) % 256) as u8, library),
+    }
 }
 
-fn short_lists() {
-    series(2, 2, b"001cc0");
-    series(2, 1, b"001cc");
-    series(2, 2, b"0001cc");
-    series(3, 3, b"0120ccc");
-    series(2, 2, b"c202Lc1L2c");
+fn calls(s: Saver, text: &[u8], library: bool)
+    requires { ⌜ Given s ⌝ }
+{
+    let n = text.len();
+    let mut now = s;
+    let mut i: usize = 0;
+    while i < n {
+        now = call(now, text[i], library);
+        i += 1;
+    }
+}
+
+// A new saver, and calls of it.
+pub(crate) fn series(new: &[u8], text: &[u8], library: bool) {
+    let cards = tables::number(tables::byte_at(new, 0));
+    let pool = tables::number(tables::byte_at(new, 1));
+    calls(open((cards % 256) as u8, pool, library), text, library);
 }
 
 pub(crate) fn all() {
-    output::text(
-        b"\nTHE SAVER\n\
+    tables::each(
+        b"THE SAVER\n\
         Each call's answer: the refusal, the cycle made, the record that comes back (cards, pool, taken, made, waiting, closing), and the\n\
         entries of the cards that wrote, as card:position. A new saver has cards and a pool, a save a card.\n\n\
-        call                 refusal   cycle   cards    pool   taken    made waiting closing   written\n",
+        call                 refusal   cycle   cards    pool   taken    made waiting closing   written\n#\
+        11|CP|01 0Lc|DP 0c|20 0Lc|2Q 0c|00|LL|\
+        22 001cc0|21 001cc|22 0001cc|33 0120ccc|22 c202Lc1L2c|\
+        After this new saver come 4,095 saves on card 0 that are not shown.\n#\
+        2P m0012Lc02cc|",
+        Show::Saved,
     );
-    new_savers();
-    short_lists();
-    output::text(b"After this new saver come 4,095 saves on card 0 that are not shown.\n");
-    let s = many(open(2, 1024), 4095);
-    calls(s, b"0012Lc02cc");
 }

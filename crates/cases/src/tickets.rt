@@ -9,16 +9,13 @@ use header::Answer;
 fn fields(a: Answer) {
     match a {
         Answer::Accepted(h) => {
-            output::number(h.edition as u64, 7);
-            output::number(h.mode as u64, 7);
-            output::number(h.cards as u64, 7);
-            output::number(h.pool as u64, 7);
-            output::number(h.frames as u64, 7);
+            output::small(h.edition, 7);
+            output::small(h.mode, 7);
+            output::small(h.cards, 7);
+            output::number(h.pool, 7);
+            output::number(h.frames, 7);
         }
-        Answer::Refused(k) => {
-            output::text(b" refused");
-            output::number(k as u64, 27);
-        }
+        Answer::Refused(k) => output::small(k, 35),
     }
 }
 
@@ -26,19 +23,12 @@ fn fields(a: Answer) {
 fn frames_of_cards(count: [u16; 32]) {
     let n: usize = 32;
     let mut i: usize = 0;
-    let mut none = true;
+    let mut shown = false;
     while i < n {
-        let card = i;
-        let frames = count[i];
+        shown = output::of_card(shown, i, count[i], 0);
         i += 1;
-        if frames != 0 {
-            output::of_card(card, frames);
-            none = false;
-        }
     }
-    if none {
-        output::text(b" none");
-    }
+    output::of_cards(shown);
 }
 
 // What heading, parse and counts say of a ticket.
@@ -56,9 +46,9 @@ pub(crate) fn accepted(t: &[u8]) {
 // The line at a position, and the number beside it.
 fn line(t: &[u8], position: u16) {
     output::ticket(t);
-    output::number(position as u64, 9);
-    output::number(ticket::line_refusal(t, Position(position)) as u64, 9);
-    output::spaces(2);
+    output::number(position, 9);
+    output::small(ticket::line_refusal(t, Position(position)), 9);
+    output::pad(0, 2);
     output::byte(b'"');
     output::text(ticket::line(t, Position(position)));
     output::byte(b'"');
@@ -75,37 +65,33 @@ pub(crate) fn lines(t: &[u8]) {
 }
 
 pub(crate) fn all() {
-    output::text(
+    tables::each(
         b"\nACCEPTED TICKETS\n\
         header::heading and ticket::parse give the fields of the header. parse gives the card of each frame too, 0 past the last one: the\n\
         first five places are shown. ticket::counts gives the frames of each card: those that are not 0 are shown, as card:frames.\n\n\
         \x20                                heading                            parse\n\
-        ticket                          edition   mode  cards   pool frames edition   mode  cards   pool frames cards of frames counts\n",
-    );
-    tables::each(
-        b"01000200020003\n00\n00\n01\n;\
-        01010200020003\n00\n00\n01\n;\
-        01020200020003\n00\n00\n01\n;\
-        01000200020000\n;\
-        01000100020000\n;\
-        01002000020000\n;\
-        01000200010000\n;\
-        01000204000000\n;\
-        01002000020002\n1F\n00\n;\
-        010110000A0004\n0A\n0F\n09\n0A\n;",
+        ticket                          edition   mode  cards   pool frames edition   mode  cards   pool frames cards of frames counts\n#\
+        01000200020003\n00\n00\n01\n|\
+        01010200020003\n00\n00\n01\n|\
+        01020200020003\n00\n00\n01\n|\
+        01000200020000\n|\
+        01000100020000\n|\
+        01002000020000\n|\
+        01000200010000\n|\
+        01000204000000\n|\
+        01002000020002\n1F\n00\n|\
+        010110000A0004\n0A\n0F\n09\n0A\n|",
         Show::Accepted,
     );
-    output::text(
+    tables::each(
         b"\nLINES\n\
         ticket::line gives the line at a position, ticket::line_refusal the number beside it: 0, or a refusal beside an empty line.\n\n\
-        ticket                           position  refusal  line\n",
-    );
-    tables::each(
-        b"01000300020003\n00\n02\n01\n;\
-        01000200020000\n;\
-        01000300020003\n00\n02\n;\
-        01000300020003\n00\n02\n03\n;\
-        01000300020003\n00\n02\n01\n00\n;",
+        ticket                           position  refusal  line\n#\
+        01000300020003\n00\n02\n01\n|\
+        01000200020000\n|\
+        01000300020003\n00\n02\n|\
+        01000300020003\n00\n02\n03\n|\
+        01000300020003\n00\n02\n01\n00\n|",
         Show::Lines,
     );
 }

@@ -10,31 +10,24 @@ fn part(line: &[u8]) {
     if line.len() < 1 {
         output::text(b"  end");
     } else {
-        output::spaces(3);
+        output::pad(0, 3);
         output::text(line);
     }
 }
 
-// What the first five steps of a walk give.
-fn steps(bytes: &[u8]) {
+// The position at which a walk stands after n steps; what the first few of them give is shown.
+fn steps(bytes: &[u8], n: u16, shown: u16) -> u16 {
     let mut p: u16 = 0;
     let mut i: u16 = 0;
-    while i < 5 {
-        part(walker::line_at(bytes, Position(p)));
-        let next = walker::next_at(bytes, Position(p));
+    while i < n {
+        let here = Position(p);
+        let first = i < shown;
+        let next = walker::next_at(bytes, here);
         p = next.0;
         i += 1;
-    }
-}
-
-// The position at which a walk stands after 5,000 steps.
-fn stands_at(bytes: &[u8]) -> u16 {
-    let mut p: u16 = 0;
-    let mut i: u16 = 0;
-    while i < 5000 {
-        let next = walker::next_at(bytes, Position(p));
-        p = next.0;
-        i += 1;
+        if first {
+            part(walker::line_at(bytes, here));
+        }
     }
     p
 }
@@ -42,9 +35,9 @@ fn stands_at(bytes: &[u8]) -> u16 {
 // The number beside a walk, its first five steps, and the line at some positions.
 pub(crate) fn walked(t: &[u8]) {
     output::ticket(t);
-    output::number(ticket::refusal(t) as u64, 9);
-    steps(walker::opened(t));
-    output::spaces(3);
+    output::small(ticket::refusal(t), 9);
+    steps(walker::opened(t), 5, 5);
+    output::pad(0, 3);
     part(walker::nth(t, Position(0)));
     part(walker::nth(t, Position(2)));
     part(walker::nth(t, Position(3)));
@@ -53,10 +46,7 @@ pub(crate) fn walked(t: &[u8]) {
 
 // A walk through 4,096 lines.
 fn long(t: &[u8]) {
-    output::text(
-        b"\nAfter 5,000 steps through 4,096 frames, round robin, the walk stands at position",
-    );
-    output::number(stands_at(walker::opened(t)) as u64, 5);
+    output::number(steps(walker::opened(t), 5000, 0), 5);
     output::text(b". nth at 4,094, 4,095 and 4,096 gives");
     part(walker::nth(t, Position(4094)));
     part(walker::nth(t, Position(4095)));
@@ -65,22 +55,21 @@ fn long(t: &[u8]) {
 }
 
 pub(crate) fn all() {
-    output::text(
+    tables::each(
         b"\nWALKS\n\
         walker::opened, line_at and next_at make the first five steps of a walk, and walker::nth starts a walker, sets it at a position and\n\
         takes its line; the empty part is shown as end. ticket::refusal gives the number beside it.\n\n\
-        ticket                            refusal   five steps                  nth at 0, 2, 3 and 65,535\n",
-    );
-    tables::each(
-        b"01000300020003\n00\n02\n01\n;\
-        01000200020000\n;\
-        01002000010005\n1F\n1E\n1D\n1C\n1B\n;\
-        01000300020003\n00\n02\n;\
-        01000300020003\n00\n02\n01;\
-        01000300020003\n00\n02\n03\n;\
-        01000300020003\n00\n02\n01\n00\n;\
-        02000300020003\n00\n02\n01\n;\
-        ;",
+        ticket                            refusal   five steps                  nth at 0, 2, 3 and 65,535\n#\
+        01000300020003\n00\n02\n01\n|\
+        01000200020000\n|\
+        01002000010005\n1F\n1E\n1D\n1C\n1B\n|\
+        01000300020003\n00\n02\n|\
+        01000300020003\n00\n02\n01|\
+        01000300020003\n00\n02\n03\n|\
+        01000300020003\n00\n02\n01\n00\n|\
+        02000300020003\n00\n02\n01\n|\
+        |\
+        \nAfter 5,000 steps through 4,096 frames, round robin, the walk stands at position#",
         Show::Walked,
     );
     let mut text = [0u8; 12303];

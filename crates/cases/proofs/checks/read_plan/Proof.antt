@@ -19,11 +19,11 @@ loop-holds c = search needs
 add-i : tie.Need-add-i Inv-loop μ-loop
 add-i c = search needs
 
-shared-slice-read-cycle : tie.Need-shared-slice-read-cycle Inv-loop μ-loop
-shared-slice-read-cycle c = search needs
+shared-slice-read-number : tie.Need-shared-slice-read-number Inv-loop μ-loop
+shared-slice-read-number c = search needs
 
-cycle-requires : tie.Need-cycle-requires Inv-loop μ-loop
-cycle-requires c κs = search needs
+number-requires : tie.Need-number-requires Inv-loop μ-loop
+number-requires c κs = search needs
 
 mul-plan : tie.Need-mul-plan Inv-loop μ-loop
 mul-plan c = search needs
@@ -57,8 +57,8 @@ read-plan-spec =
     μ-loop
     loop-holds
     add-i
-    shared-slice-read-cycle
-    cycle-requires
+    shared-slice-read-number
+    number-requires
     mul-plan
     slice-write-plan
     loop-less

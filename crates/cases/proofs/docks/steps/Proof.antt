@@ -8,28 +8,31 @@ use Rattle.cases.proofs.docks.steps.Statement.{statement}
 use Rattle.cases.proofs.docks.steps.Tie as tie
 
 abbrev Inv-loop : tie.InvT-loop
-Inv-loop text memory₀ n d₀ i₀ memory d i = (i ≤ n) × (length memory ≡ length memory₀)
+Inv-loop text memory₀ short₀ n d₀ from₀ i₀ memory short d from i = (i ≤ n) × (from ≤ i) × (length memory ≡ length memory₀) × (length short ≡ length short₀)
 
 abbrev μ-loop : tie.MeasureT-loop
-μ-loop text memory₀ n d₀ i₀ memory d i = n - i
+μ-loop text memory₀ short₀ n d₀ from₀ i₀ memory short d from i = n - i
 
 loop-holds : tie.Need-loop-holds Inv-loop μ-loop
 loop-holds c = search needs
 
-byte-at-requires : tie.Need-byte-at-requires Inv-loop μ-loop
-byte-at-requires c κs = search needs
-
-add-byte-at : tie.Need-add-byte-at Inv-loop μ-loop
-add-byte-at c = search needs
-
-byte-at-requires-2 : tie.Need-byte-at-requires-2 Inv-loop μ-loop
-byte-at-requires-2 c κs = search needs
-
-letter-requires : tie.Need-letter-requires Inv-loop μ-loop
-letter-requires c κs = search needs
+shared-slice-read-b : tie.Need-shared-slice-read-b Inv-loop μ-loop
+shared-slice-read-b c = search needs
 
 add-i : tie.Need-add-i Inv-loop μ-loop
 add-i c = search needs
+
+sub-drive : tie.Need-sub-drive Inv-loop μ-loop
+sub-drive c = search needs
+
+part-drive-start : tie.Need-part-drive-start Inv-loop μ-loop
+part-drive-start c = search needs
+
+part-drive-end : tie.Need-part-drive-end Inv-loop μ-loop
+part-drive-end c = search needs
+
+drive-requires : tie.Need-drive-requires Inv-loop μ-loop
+drive-requires c κs = search needs
 
 loop-less : tie.Need-loop-less Inv-loop μ-loop
 loop-less c = search needs
@@ -37,8 +40,35 @@ loop-less c = search needs
 loop-again : tie.Need-loop-again Inv-loop μ-loop
 loop-again c = search needs
 
+sub-drive-2 : tie.Need-sub-drive-2 Inv-loop μ-loop
+sub-drive-2 c = search needs
+
+part-drive-start-2 : tie.Need-part-drive-start-2 Inv-loop μ-loop
+part-drive-start-2 c = search needs
+
+part-drive-end-2 : tie.Need-part-drive-end-2 Inv-loop μ-loop
+part-drive-end-2 c = search needs
+
+drive-requires-2 : tie.Need-drive-requires-2 Inv-loop μ-loop
+drive-requires-2 c κs = search needs
+
+loop-less-2 : tie.Need-loop-less-2 Inv-loop μ-loop
+loop-less-2 c = search needs
+
+loop-again-2 : tie.Need-loop-again-2 Inv-loop μ-loop
+loop-again-2 c = search needs
+
+loop-less-3 : tie.Need-loop-less-3 Inv-loop μ-loop
+loop-less-3 c = search needs
+
+loop-again-3 : tie.Need-loop-again-3 Inv-loop μ-loop
+loop-again-3 c = search needs
+
 same-length : tie.Need-same-length Inv-loop μ-loop
 same-length c = search needs
+
+same-length-2 : tie.Need-same-length-2 Inv-loop μ-loop
+same-length-2 c = search needs
 
 returns : tie.Need-returns Inv-loop μ-loop
 returns c = search needs
@@ -50,12 +80,22 @@ steps-spec =
     Inv-loop
     μ-loop
     loop-holds
-    byte-at-requires
-    add-byte-at
-    byte-at-requires-2
-    letter-requires
+    shared-slice-read-b
     add-i
+    sub-drive
+    part-drive-start
+    part-drive-end
+    drive-requires
     loop-less
     loop-again
+    sub-drive-2
+    part-drive-start-2
+    part-drive-end-2
+    drive-requires-2
+    loop-less-2
+    loop-again-2
+    loop-less-3
+    loop-again-3
     same-length
+    same-length-2
     returns)

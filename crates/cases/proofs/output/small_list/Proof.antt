@@ -14,17 +14,14 @@ abbrev μ-loop : tie.MeasureT-loop
 loop-holds : tie.Need-loop-holds Inv-loop μ-loop
 loop-holds c = search needs
 
-shared-slice-read-small-wide : tie.Need-shared-slice-read-small-wide Inv-loop μ-loop
-shared-slice-read-small-wide c = search needs
+shared-slice-read-small : tie.Need-shared-slice-read-small Inv-loop μ-loop
+shared-slice-read-small c = search needs
 
-small-wide-requires : tie.Need-small-wide-requires Inv-loop μ-loop
-small-wide-requires c κs = search needs
+small-requires : tie.Need-small-requires Inv-loop μ-loop
+small-requires c κs = search needs
 
-number-requires : tie.Need-number-requires Inv-loop μ-loop
-number-requires c κs = search needs
-
-spaces-requires : tie.Need-spaces-requires Inv-loop μ-loop
-spaces-requires c κs = search needs
+pad-requires : tie.Need-pad-requires Inv-loop μ-loop
+pad-requires c κs = search needs
 
 add-i : tie.Need-add-i Inv-loop μ-loop
 add-i c = search needs
@@ -45,10 +42,9 @@ small-list-spec =
     Inv-loop
     μ-loop
     loop-holds
-    shared-slice-read-small-wide
-    small-wide-requires
-    number-requires
-    spaces-requires
+    shared-slice-read-small
+    small-requires
+    pad-requires
     add-i
     loop-less
     loop-again

@@ -7,10 +7,10 @@ use Rattle.cases.proofs.savers.calls.Statement.{statement}
 use Rattle.cases.proofs.savers.calls.Tie as tie
 
 abbrev Inv-loop : tie.InvT-loop
-Inv-loop text n now₀ i₀ now i = (i ≤ n) × Given now
+Inv-loop text library n now₀ i₀ now i = (i ≤ n) × Given now
 
 abbrev μ-loop : tie.MeasureT-loop
-μ-loop text n now₀ i₀ now i = n - i
+μ-loop text library n now₀ i₀ now i = n - i
 
 loop-holds : tie.Need-loop-holds Inv-loop μ-loop
 loop-holds c = search needs

@@ -7,10 +7,10 @@ use Rattle.cases.proofs.savers.many.Statement.{statement}
 use Rattle.cases.proofs.savers.many.Tie as tie
 
 abbrev Inv-loop : tie.InvT-loop
-Inv-loop n now₀ i₀ now i = (i ≤ n) × Given now
+Inv-loop now₀ i₀ now i = (i ≤ 4095) × Given now
 
 abbrev μ-loop : tie.MeasureT-loop
-μ-loop n now₀ i₀ now i = n - i
+μ-loop now₀ i₀ now i = 4095 - i
 
 loop-holds : tie.Need-loop-holds Inv-loop μ-loop
 loop-holds c = search needs

@@ -14,11 +14,29 @@ abbrev μ-loop : tie.MeasureT-loop
 loop-holds : tie.Need-loop-holds Inv-loop μ-loop
 loop-holds c = search needs
 
+shared-slice-read-b : tie.Need-shared-slice-read-b Inv-loop μ-loop
+shared-slice-read-b c = search needs
+
 add-i : tie.Need-add-i Inv-loop μ-loop
 add-i c = search needs
 
-shared-slice-read-if1 : tie.Need-shared-slice-read-if1 Inv-loop μ-loop
-shared-slice-read-if1 c = search needs
+sub-text : tie.Need-sub-text Inv-loop μ-loop
+sub-text c = search needs
+
+part-text-start : tie.Need-part-text-start Inv-loop μ-loop
+part-text-start c = search needs
+
+part-text-end : tie.Need-part-text-end Inv-loop μ-loop
+part-text-end c = search needs
+
+text-requires : tie.Need-text-requires Inv-loop μ-loop
+text-requires c κs = search needs
+
+loop-less : tie.Need-loop-less Inv-loop μ-loop
+loop-less c = search needs
+
+loop-again : tie.Need-loop-again Inv-loop μ-loop
+loop-again c = search needs
 
 sub-show-entry : tie.Need-sub-show-entry Inv-loop μ-loop
 sub-show-entry c = search needs
@@ -32,17 +50,17 @@ part-show-entry-end c = search needs
 show-entry-requires : tie.Need-show-entry-requires Inv-loop μ-loop
 show-entry-requires c κs = search needs
 
-loop-less : tie.Need-loop-less Inv-loop μ-loop
-loop-less c = search needs
-
-loop-again : tie.Need-loop-again Inv-loop μ-loop
-loop-again c = search needs
-
 loop-less-2 : tie.Need-loop-less-2 Inv-loop μ-loop
 loop-less-2 c = search needs
 
 loop-again-2 : tie.Need-loop-again-2 Inv-loop μ-loop
 loop-again-2 c = search needs
+
+loop-less-3 : tie.Need-loop-less-3 Inv-loop μ-loop
+loop-less-3 c = search needs
+
+loop-again-3 : tie.Need-loop-again-3 Inv-loop μ-loop
+loop-again-3 c = search needs
 
 returns : tie.Need-returns Inv-loop μ-loop
 returns c = search needs
@@ -54,14 +72,20 @@ each-spec =
     Inv-loop
     μ-loop
     loop-holds
+    shared-slice-read-b
     add-i
-    shared-slice-read-if1
+    sub-text
+    part-text-start
+    part-text-end
+    text-requires
+    loop-less
+    loop-again
     sub-show-entry
     part-show-entry-start
     part-show-entry-end
     show-entry-requires
-    loop-less
-    loop-again
     loop-less-2
     loop-again-2
+    loop-less-3
+    loop-again-3
     returns)

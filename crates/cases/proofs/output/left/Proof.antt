@@ -1,15 +1,15 @@
--- `cases::output::ticket_bytes` meets its contract.
+-- `cases::output::left` meets its contract.
 -- Assumes nothing.
 use Prim.Native.Nat.{_≤_, _-_}
 use borrow.Author.Needs.{needs}
-use Rattle.cases.proofs.output.ticket_bytes.Statement.{statement}
-use Rattle.cases.proofs.output.ticket_bytes.Tie as tie
+use Rattle.cases.proofs.output.left.Statement.{statement}
+use Rattle.cases.proofs.output.left.Tie as tie
 
 abbrev Inv-loop : tie.InvT-loop
-Inv-loop t n i₀ i = i ≤ n
+Inv-loop t width n i₀ i = i ≤ n
 
 abbrev μ-loop : tie.MeasureT-loop
-μ-loop t n i₀ i = n - i
+μ-loop t width n i₀ i = n - i
 
 loop-holds : tie.Need-loop-holds Inv-loop μ-loop
 loop-holds c = search needs
@@ -38,11 +38,14 @@ loop-less-2 c = search needs
 loop-again-2 : tie.Need-loop-again-2 Inv-loop μ-loop
 loop-again-2 c = search needs
 
+pad-requires : tie.Need-pad-requires Inv-loop μ-loop
+pad-requires c κs = search needs
+
 returns : tie.Need-returns Inv-loop μ-loop
 returns c = search needs
 
-pub ticket-bytes-spec : {M : Type 1} → statement M
-ticket-bytes-spec =
+pub left-spec : {M : Type 1} → statement M
+left-spec =
     tie.close
     (tie.spec
     Inv-loop
@@ -56,4 +59,5 @@ ticket-bytes-spec =
     byte-requires-2
     loop-less-2
     loop-again-2
+    pad-requires
     returns)

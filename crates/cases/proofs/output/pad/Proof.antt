@@ -1,15 +1,15 @@
--- `cases::output::spaces` meets its contract.
+-- `cases::output::pad` meets its contract.
 -- Assumes nothing.
 use Prim.Native.Nat.{_≤_, _-_}
 use borrow.Author.Needs.{needs}
-use Rattle.cases.proofs.output.spaces.Statement.{statement}
-use Rattle.cases.proofs.output.spaces.Tie as tie
+use Rattle.cases.proofs.output.pad.Statement.{statement}
+use Rattle.cases.proofs.output.pad.Tie as tie
 
 abbrev Inv-loop : tie.InvT-loop
-Inv-loop n i₀ i = i ≤ n
+Inv-loop taken width i₀ i = taken ≤ i
 
 abbrev μ-loop : tie.MeasureT-loop
-μ-loop n i₀ i = n - i
+μ-loop taken width i₀ i = width - i
 
 loop-holds : tie.Need-loop-holds Inv-loop μ-loop
 loop-holds c = search needs
@@ -29,7 +29,7 @@ loop-again c = search needs
 returns : tie.Need-returns Inv-loop μ-loop
 returns c = search needs
 
-pub spaces-spec : {M : Type 1} → statement M
-spaces-spec =
+pub pad-spec : {M : Type 1} → statement M
+pad-spec =
     tie.close
     (tie.spec Inv-loop μ-loop loop-holds byte-requires add-i loop-less loop-again returns)

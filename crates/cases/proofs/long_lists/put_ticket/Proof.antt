@@ -1,26 +1,26 @@
--- `cases::long_lists::put_header` meets its contract.
+-- `cases::long_lists::put_ticket` meets its contract.
 -- Assumes nothing.
 use Prim.Native.Nat.{_≤_, _-_}
 use mathlib.Core.Path.{_≡_}
 use lib.ListN.{length}
 use borrow.Author.Needs.{needs}
-use Rattle.cases.proofs.long_lists.put_header.Statement.{statement}
-use Rattle.cases.proofs.long_lists.put_header.Tie as tie
+use Rattle.cases.proofs.long_lists.put_ticket.Statement.{statement}
+use Rattle.cases.proofs.long_lists.put_ticket.Tie as tie
 
 abbrev Inv-loop : tie.InvT-loop
-Inv-loop text₀ header n i₀ text i = (i ≤ n) × (length text ≡ length text₀)
+Inv-loop text₀ header layout n i₀ text i = (i ≤ n) × (length text ≡ n)
 
 abbrev μ-loop : tie.MeasureT-loop
-μ-loop text₀ header n i₀ text i = n - i
+μ-loop text₀ header layout n i₀ text i = n - i
 
 loop-holds : tie.Need-loop-holds Inv-loop μ-loop
 loop-holds c = search needs
 
-shared-slice-read-put : tie.Need-shared-slice-read-put Inv-loop μ-loop
-shared-slice-read-put c = search needs
+byte-of-requires : tie.Need-byte-of-requires Inv-loop μ-loop
+byte-of-requires c κs = search needs
 
-put-requires : tie.Need-put-requires Inv-loop μ-loop
-put-requires c κs = search needs
+slice-write-text : tie.Need-slice-write-text Inv-loop μ-loop
+slice-write-text c = search needs
 
 add-i : tie.Need-add-i Inv-loop μ-loop
 add-i c = search needs
@@ -37,15 +37,15 @@ same-length c = search needs
 returns : tie.Need-returns Inv-loop μ-loop
 returns c = search needs
 
-pub put-header-spec : {M : Type 1} → statement M
-put-header-spec =
+pub put-ticket-spec : {M : Type 1} → statement M
+put-ticket-spec =
     tie.close
     (tie.spec
     Inv-loop
     μ-loop
     loop-holds
-    shared-slice-read-put
-    put-requires
+    byte-of-requires
+    slice-write-text
     add-i
     loop-less
     loop-again
