@@ -2,7 +2,6 @@
 // A plan is written with a digit for each cycle, and L for the largest number, 65,535.
 use crate::output;
 use crate::tables;
-use crate::tables::Show;
 use checker::Verdict;
 use plan_run::Answer;
 use plan_run::Outcome;
@@ -128,6 +127,6 @@ pub(crate) fn all() {
         01020200020003\n00\n00\n01\n 122|\
         01020200020003\n00\n00\n01\n 12|\
         01020200020000\n |",
-        Show::Checked,
+        tables::CHECKED,
     );
 }

@@ -2,7 +2,6 @@
 // A step is written as it is shown. A comma ends it; ! ends a step with memory of two places.
 use crate::output;
 use crate::tables;
-use crate::tables::Show;
 use counting::Position;
 use dock::Dock;
 use dock::Driven;
@@ -31,51 +30,48 @@ fn result(r: Driven, memory: &[u8]) {
     output::byte(b'\n');
 }
 
-fn step_of(name: &[u8]) -> Step {
-    let letter = tables::byte_at(name, 0);
+fn drive(d: Dock, name: &[u8], end: u8, memory: &mut [u8]) -> Dock {
     let position = Position(tables::number(tables::byte_at(name, 5)));
-    match letter {
+    let step = match tables::byte_at(name, 0) {
         b'r' => Step::Read(position),
         b'd' => Step::Drop(position),
         _ => Step::End,
-    }
-}
-
-fn drive(d: Dock, name: &[u8], memory: &mut [u8]) -> Dock {
+    };
     output::pad(0, 2);
     output::left(name, 30);
-    let r = dock::drive(d, step_of(name), memory);
+    if end == b'!' {
+        let mut short = [77u8; 2];
+        let r = dock::drive(d, step, &mut short);
+        result(r, &short);
+        return r.dock;
+    }
+    let r = dock::drive(d, step, memory);
     result(r, memory);
     r.dock
 }
 
-fn steps(start: Dock, text: &[u8], memory: &mut [u8], short: &mut [u8]) {
+// With memory of four places.
+pub(crate) fn driven(t: &[u8], text: &[u8]) {
+    let mut memory = [77u8; 4];
+    output::ticket(t);
+    let first = dock::start(t, &mut memory);
+    result(first, &memory);
     let n = text.len();
-    let mut d = start;
+    let mut d = first.dock;
     let mut from: usize = 0;
     let mut i: usize = 0;
     while i < n {
         let at = i;
         let b = text[at];
         i += 1;
-        if b == b',' {
-            d = drive(d, &text[from..at], memory);
-            from = i;
-        } else if b == b'!' {
-            d = drive(d, &text[from..at], short);
-            from = i;
+        match b {
+            b'!'..=b',' => {
+                d = drive(d, &text[from..at], b, &mut memory);
+                from = i;
+            }
+            _ => {}
         }
     }
-}
-
-// With memory of four places.
-pub(crate) fn driven(t: &[u8], text: &[u8]) {
-    let mut memory = [77u8; 4];
-    let mut short = [77u8; 2];
-    output::ticket(t);
-    let r = dock::start(t, &mut memory);
-    result(r, &memory);
-    steps(r.dock, text, &mut memory, &mut short);
 }
 
 pub(crate) fn all() {
@@ -102,6 +98,6 @@ pub(crate) fn all() {
         01000200020005\n00\n00\n01\n00\n01\n |\
         \nA step with memory of two places for three frames is refused; the same step with the dock's own memory is made.\n\n#\
         01000200020003\n00\n00\n01\n read 0,read 2!read 2,|",
-        Show::Driven,
+        tables::DRIVEN,
     );
 }

@@ -2,7 +2,6 @@
 use crate::checks;
 use crate::output;
 use crate::tables;
-use crate::tables::Show;
 use counting::Position;
 use firmware::checks::dockplan_check;
 use firmware::checks::dockplan_run_plan;
@@ -32,49 +31,40 @@ fn reading(t: &[u8]) {
     output::list(&frames, 2, 3);
 }
 
-// dockplan_plan with three places, and how many bytes dockplan_print puts into 60.
-fn planning(t: &[u8]) {
+fn judging(t: &[u8], plan: &[u16]) {
+    let checked = dockplan_check(t, plan);
+    output::small(checked.refusal, 6);
+    output::small(checked.verdict, 3);
+    output::number(checked.position.0, 3);
+    output::number(checked.cycles.0, 3);
+    output::number(checked.peak, 3);
+    let ran = dockplan_run_plan(t, plan);
+    output::small(ran.refusal, 6);
+    output::small(ran.broken as u8, 4);
+    output::small(ran.complete as u8, 4);
+    output::number(ran.delivered, 3);
+    output::number(ran.ended.0, 3);
+    output::number(ran.needed.0, 3);
+    output::number(ran.peak, 3);
+}
+
+// A ticket, and a plan of three cycles. dockplan_plan has three places, and dockplan_print 60.
+pub(crate) fn called(t: &[u8], text: &[u8]) {
     let mut buffer = [9u16; 3];
-    let mut text = [0u8; 60];
+    let mut room = [0u8; 60];
+    let mut plan = [0u16; 3];
+    output::ticket(t);
+    reading(t);
     let a = dockplan_plan(t, &mut buffer);
     output::small(a.refusal, 6);
     output::number(a.cycles.0, 3);
     output::list(&buffer, 3, 3);
-    output::size(dockplan_print(t, &mut text), 6);
-}
-
-fn checking(t: &[u8], plan: &[u16]) {
-    let a = dockplan_check(t, plan);
-    output::small(a.refusal, 6);
-    output::small(a.verdict, 3);
-    output::number(a.position.0, 3);
-    output::number(a.cycles.0, 3);
-    output::number(a.peak, 3);
-}
-
-fn running(t: &[u8], plan: &[u16]) {
-    let a = dockplan_run_plan(t, plan);
-    output::small(a.refusal, 6);
-    output::small(a.broken as u8, 4);
-    output::small(a.complete as u8, 4);
-    output::number(a.delivered, 3);
-    output::number(a.ended.0, 3);
-    output::number(a.needed.0, 3);
-    output::number(a.peak, 3);
-}
-
-// A ticket, and a plan of three cycles.
-pub(crate) fn called(t: &[u8], text: &[u8]) {
-    let mut plan = [0u16; 3];
+    output::size(dockplan_print(t, &mut room), 6);
+    output::pad(0, 3);
     checks::read_plan(text, &mut plan);
     let given: &[u16] = &plan;
-    output::ticket(t);
-    reading(t);
-    planning(t);
-    output::pad(0, 3);
     output::list(given, 3, 3);
-    checking(t, given);
-    running(t, given);
+    judging(t, given);
 }
 
 // The last table is the saver of document 01's first save: list 0 0 1 with a pool of 2, and a card that is not there, a save too late and a close
@@ -105,11 +95,11 @@ pub(crate) fn all() {
         01000200020003\n00\n00\n01\n 112|\
         01000200020003\n00\n00\n01\n 212|\
         01000200020003\n00\n00\n01\n 012|",
-        Show::Called,
+        tables::CALLED,
     );
     tables::each(
         b"\nThe saver's calls, as above: refusal, cycle, cards, pool, taken, made, waiting, closing, entries.\n\n#\
         22 2001c0c|D2 0|",
-        Show::SavedByLibrary,
+        tables::SAVED_BY_LIBRARY,
     );
 }

@@ -3,31 +3,22 @@ use crate::checks;
 use crate::output;
 use crate::plans;
 use crate::tables;
-use crate::tables::Show;
 
-// The card of frame i, by the first letter of the layout: one card, round robin, or blocks.
-fn card_of(layout: u8, i: usize) -> u8 {
-    match layout {
-        b'r' => (i % 32) as u8,
-        b'b' => (i / 128 % 32) as u8,
-        _ => 0,
-    }
-}
-
-fn digit(d: u8) -> u8 {
-    if d < 10 { b'0' + d } else { b'7' + d % 16 }
-}
-
-// Byte i of a ticket with this header and layout.
+// Byte i of a ticket with this header. The card of a frame is by the first letter of the layout: one card, round robin, or blocks.
 fn byte_of(header: &[u8], layout: u8, i: usize) -> u8 {
     if i < header.len() {
         return header[i];
     }
     let past = i - header.len();
-    let card = card_of(layout, past / 3);
+    let card = match layout {
+        b'r' => past / 3 % 32,
+        b'b' => past / 384 % 32,
+        _ => 0,
+    };
+    let low = (card % 16) as u8;
     match past % 3 {
-        0 => digit(card / 16),
-        1 => digit(card % 16),
+        0 => b'0' + (card / 16 % 16) as u8,
+        1 => if low < 10 { b'0' + low } else { b'7' + low },
         _ => b'\n',
     }
 }
@@ -91,6 +82,6 @@ pub(crate) fn all() {
         01002000011000\n blocks|01012000011000\n blocks|01022000011000\n blocks|\
         01002000C01000\n blocks|01012000C01000\n blocks|01022000C01000\n blocks|\
         01002004001000\n blocks|01012004001000\n blocks|01022004001000\n blocks|",
-        Show::LongList,
+        tables::LONG_LIST,
     );
 }

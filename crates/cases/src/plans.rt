@@ -1,7 +1,6 @@
 // Plans: the answer, and the lent buffer afterwards.
 use crate::output;
 use crate::tables;
-use crate::tables::Show;
 use planner::Answer;
 
 // T, or the number of a refusal.
@@ -62,6 +61,6 @@ pub(crate) fn all() {
         01000200020004\n00\n00\n00\n ..|\
         01000200020004\n00\n00\n00\n02\n ..|\
         01000200020004\n00\n00\n00\n01\n00\n ..|",
-        Show::Planned,
+        tables::PLANNED,
     );
 }

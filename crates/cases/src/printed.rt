@@ -1,7 +1,6 @@
 // Printed plans: how many bytes are printed, and the lent buffer afterwards.
 use crate::output;
 use crate::tables;
-use crate::tables::Show;
 
 // With a buffer of 52 places, and one less for each dot.
 pub(crate) fn printed(t: &[u8], dots: &[u8]) {
@@ -43,6 +42,6 @@ pub(crate) fn all() {
         01000200020003\n00\n00\n01\n ...............|\
         01000200020003\n00\n00\n01\n ...............................................|\
         01000200020003\n00\n00\n01\n ....................................................|",
-        Show::Printed,
+        tables::PRINTED,
     );
 }

@@ -2,34 +2,12 @@
 use crate::docks;
 use crate::output;
 use crate::tables;
-use crate::tables::Show;
 use counting::Position;
 
 fn number_of_header(a: header::Answer) -> u8 {
     match a {
         header::Answer::Accepted(_) => 0,
         header::Answer::Refused(k) => k,
-    }
-}
-
-fn number_of_plan(a: planner::Answer) -> u8 {
-    match a {
-        planner::Answer::Planned(_) => 0,
-        planner::Answer::Refused(k) => k,
-    }
-}
-
-fn number_of_check(v: checker::Verdict) -> u8 {
-    match v {
-        checker::Verdict::Refused(k) => k,
-        _ => 0,
-    }
-}
-
-fn number_of_run(a: plan_run::Answer) -> u8 {
-    match a {
-        plan_run::Answer::Ran(_) => 0,
-        plan_run::Answer::Refused(k) => k,
     }
 }
 
@@ -49,19 +27,25 @@ fn reader(t: &[u8], position: u16) {
     output::list(&count, 2, 3);
 }
 
-// The numbers of check and run_plan, between those of plan and start.
-fn numbers(t: &[u8], plan: &[u16], planned: planner::Answer, started: u8) {
-    output::small(number_of_plan(planned), 6);
-    output::small(number_of_check(checker::check(t, plan)), 6);
-    output::small(number_of_run(plan_run::run_plan(t, plan)), 6);
-    output::small(started, 6);
-}
-
 // The calls that use a ticket: plan, check, run_plan, start; the buffer, the memory and the dock afterwards.
 fn users(t: &[u8], plan: &[u16], buffer: &mut [u16], memory: &mut [u8]) {
     let planned = planner::plan(t, buffer);
+    match planned {
+        planner::Answer::Planned(_) => output::small(0, 6),
+        planner::Answer::Refused(k) => output::small(k, 6),
+    }
+    let verdict = checker::check(t, plan);
+    match verdict {
+        checker::Verdict::Refused(k) => output::small(k, 6),
+        _ => output::small(0, 6),
+    }
+    let ran = plan_run::run_plan(t, plan);
+    match ran {
+        plan_run::Answer::Ran(_) => output::small(0, 6),
+        plan_run::Answer::Refused(k) => output::small(k, 6),
+    }
     let started = dock::start(t, memory);
-    numbers(t, plan, planned, started.refusal);
+    output::small(started.refusal, 6);
     output::list(buffer, 3, 3);
     output::small_list(memory, 3, 3);
     docks::numbers(started.dock, 3);
@@ -132,7 +116,7 @@ pub(crate) fn all() {
         01000200020003\n00\n00\n01\n00\n|\
         01000200020000\n0|\
         01000200020000\n\n|",
-        Show::Refused,
+        tables::REFUSED,
     );
     tables::each(
         b"\nThe ticket's own refusal comes before 10, 11, 12 and 16: position 3, and one place in the plan, the buffer and memory.\n\n\
@@ -143,6 +127,6 @@ pub(crate) fn all() {
         01020200020003\n00\n00\n01\n00\n|\
         01020200020003\n00\n00\n01\n|\
         01000200020003\n00\n00\n01\n|",
-        Show::TooShort,
+        tables::TOO_SHORT,
     );
 }

@@ -4,27 +4,13 @@
 ghost use Rattle.saver.specs.Calls.{Given};
 use crate::output;
 use crate::tables;
-use crate::tables::Show;
-use counting::Position;
 use firmware::savers::dockplan_saver_close;
 use firmware::savers::dockplan_saver_new;
 use firmware::savers::dockplan_saver_save;
 use saver::Answer;
 use saver::Saver;
 
-// The entries of the cards that wrote, as card:position. The entry of a card that writes nothing is 65,535.
-fn entries(written: [Position; 32]) {
-    let n: usize = 32;
-    let mut i: usize = 0;
-    let mut shown = false;
-    while i < n {
-        shown = output::of_card(shown, i, written[i].0, 65535);
-        i += 1;
-    }
-    output::of_cards(shown);
-}
-
-// The refusal, the cycle made, the record, and what was written.
+// The refusal, the cycle made, the record, and the entries of the cards that wrote, as card:position; 65,535 is no position.
 fn answered(a: Answer) -> Saver
     requires { ⌜ Given (a .saver) ⌝ }
     ensures { λ r. ⌜ Given r ⌝ }
@@ -40,7 +26,14 @@ fn answered(a: Answer) -> Saver
     output::number(s.waiting, 8);
     output::yes_or_no(s.closing);
     output::pad(0, 2);
-    entries(written);
+    let n: usize = 32;
+    let mut i: usize = 0;
+    let mut shown = false;
+    while i < n {
+        shown = output::of_card(shown, i, written[i].0, 65535);
+        i += 1;
+    }
+    output::of_cards(shown);
     s
 }
 
@@ -54,31 +47,6 @@ fn open(cards: u8, pool: u16, library: bool) -> Saver
     output::small(cards, 6);
     output::number(pool, 6);
     answered(Saver::new(cards, pool))
-}
-
-fn save(s: Saver, card: u8, library: bool) -> Saver
-    requires { ⌜ Given s ⌝ }
-    ensures { λ r. ⌜ Given r ⌝ }
-{
-    output::text(b"\nsave ");
-    if library {
-        return answered(dockplan_saver_save(s, card));
-    }
-    output::small(card, 6);
-    output::pad(0, 6);
-    answered(s.save(card))
-}
-
-fn close(s: Saver, library: bool) -> Saver
-    requires { ⌜ Given s ⌝ }
-    ensures { λ r. ⌜ Given r ⌝ }
-{
-    output::text(b"\nclose");
-    if library {
-        return answered(dockplan_saver_close(s));
-    }
-    output::pad(0, 12);
-    answered(s.close())
 }
 
 // 4,095 saves on card 0, which are not shown.
@@ -100,30 +68,38 @@ fn call(s: Saver, b: u8, library: bool) -> Saver
     requires { ⌜ Given s ⌝ }
     ensures { λ r. ⌜ Given r ⌝ }
 {
-    match b {
-        b'c' => close(s, library),
-        b'm' => many(s),
-        _ => save(s, (tables::number(b) % 256) as u8, library),
+    if b == b'm' {
+        return many(s);
     }
-}
-
-fn calls(s: Saver, text: &[u8], library: bool)
-    requires { ⌜ Given s ⌝ }
-{
-    let n = text.len();
-    let mut now = s;
-    let mut i: usize = 0;
-    while i < n {
-        now = call(now, text[i], library);
-        i += 1;
+    if b == b'c' {
+        output::text(b"\nclose");
+        if library {
+            return answered(dockplan_saver_close(s));
+        }
+        output::pad(0, 12);
+        return answered(s.close());
     }
+    let card = (tables::number(b) % 256) as u8;
+    output::text(b"\nsave ");
+    if library {
+        return answered(dockplan_saver_save(s, card));
+    }
+    output::small(card, 6);
+    output::pad(0, 6);
+    answered(s.save(card))
 }
 
 // A new saver, and calls of it.
 pub(crate) fn series(new: &[u8], text: &[u8], library: bool) {
     let cards = tables::number(tables::byte_at(new, 0));
     let pool = tables::number(tables::byte_at(new, 1));
-    calls(open((cards % 256) as u8, pool, library), text, library);
+    let n = text.len();
+    let mut now = open((cards % 256) as u8, pool, library);
+    let mut i: usize = 0;
+    while i < n {
+        now = call(now, text[i], library);
+        i += 1;
+    }
 }
 
 pub(crate) fn all() {
@@ -136,6 +112,6 @@ pub(crate) fn all() {
         22 001cc0|21 001cc|22 0001cc|33 0120ccc|22 c202Lc1L2c|\
         After this new saver come 4,095 saves on card 0 that are not shown.\n#\
         2P m0012Lc02cc|",
-        Show::Saved,
+        tables::SAVED,
     );
 }

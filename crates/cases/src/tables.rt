@@ -14,42 +14,34 @@ use crate::tickets;
 use crate::walks;
 
 // How the entries of a table are shown.
-pub(crate) enum Show {
-    Accepted,
-    Lines,
-    Walked,
-    Refused,
-    TooShort,
-    Planned,
-    Printed,
-    Checked,
-    Driven,
-    Saved,
-    LongList,
-    Called,
-    SavedByLibrary,
-}
+pub(crate) const ACCEPTED: u8 = 1;
 
-fn show_ticket(how: Show, t: &[u8], more: &[u8]) {
-    match how {
-        Show::Accepted => tickets::accepted(t),
-        Show::Lines => tickets::lines(t),
-        Show::Walked => walks::walked(t),
-        Show::Refused => refusals::refused(t),
-        Show::TooShort => refusals::too_short(t),
-        Show::Planned => plans::planned(t, more),
-        Show::Printed => printed::printed(t, more),
-        Show::Checked => checks::checked(t, more),
-        Show::Driven => docks::driven(t, more),
-        Show::Saved => savers::series(t, more, false),
-        Show::LongList => long_lists::planned(t, more),
-        Show::Called => library::called(t, more),
-        Show::SavedByLibrary => savers::series(t, more, true),
-    }
-}
+pub(crate) const LINES: u8 = 2;
+
+pub(crate) const WALKED: u8 = 3;
+
+pub(crate) const REFUSED: u8 = 4;
+
+pub(crate) const TOO_SHORT: u8 = 5;
+
+pub(crate) const PLANNED: u8 = 6;
+
+pub(crate) const PRINTED: u8 = 7;
+
+pub(crate) const CHECKED: u8 = 8;
+
+pub(crate) const DRIVEN: u8 = 9;
+
+pub(crate) const SAVED: u8 = 10;
+
+pub(crate) const LONG_LIST: u8 = 11;
+
+pub(crate) const CALLED: u8 = 12;
+
+pub(crate) const SAVED_BY_LIBRARY: u8 = 13;
 
 // Shows an entry, and ends its last line.
-fn show_entry(how: Show, entry: &[u8]) {
+fn show(entry: &[u8], how: u8) {
     let start: usize = 0;
     let end = entry.len();
     let mut at = end;
@@ -62,12 +54,29 @@ fn show_entry(how: Show, entry: &[u8]) {
             next = i + 1;
         }
     }
-    show_ticket(how, &entry[start..at], &entry[next..end]);
+    let t = &entry[start..at];
+    let more = &entry[next..end];
+    match how {
+        ACCEPTED => tickets::accepted(t),
+        LINES => tickets::lines(t),
+        WALKED => walks::walked(t),
+        REFUSED => refusals::refused(t),
+        TOO_SHORT => refusals::too_short(t),
+        PLANNED => plans::planned(t, more),
+        PRINTED => printed::printed(t, more),
+        CHECKED => checks::checked(t, more),
+        DRIVEN => docks::driven(t, more),
+        SAVED => savers::series(t, more, false),
+        LONG_LIST => long_lists::planned(t, more),
+        CALLED => library::called(t, more),
+        SAVED_BY_LIBRARY => savers::series(t, more, true),
+        _ => {}
+    }
     output::byte(b'\n');
 }
 
 // Prints each text and shows each entry.
-pub(crate) fn each(table: &[u8], how: Show) {
+pub(crate) fn each(table: &[u8], how: u8) {
     let n = table.len();
     let mut from: usize = 0;
     let mut i: usize = 0;
@@ -79,7 +88,7 @@ pub(crate) fn each(table: &[u8], how: Show) {
             output::text(&table[from..at]);
             from = i;
         } else if b == b'|' {
-            show_entry(how, &table[from..at]);
+            show(&table[from..at], how);
             from = i;
         }
     }

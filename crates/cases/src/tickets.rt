@@ -1,7 +1,6 @@
 // Accepted tickets: the header's fields, the cards of the frames, the frames of each card, and the lines.
 use crate::output;
 use crate::tables;
-use crate::tables::Show;
 use counting::Position;
 use header::Answer;
 
@@ -19,19 +18,7 @@ fn fields(a: Answer) {
     }
 }
 
-// The cards that have frames, as card:frames.
-fn frames_of_cards(count: [u16; 32]) {
-    let n: usize = 32;
-    let mut i: usize = 0;
-    let mut shown = false;
-    while i < n {
-        shown = output::of_card(shown, i, count[i], 0);
-        i += 1;
-    }
-    output::of_cards(shown);
-}
-
-// What heading, parse and counts say of a ticket.
+// What heading, parse and counts say of a ticket: the cards that have frames as card:frames.
 pub(crate) fn accepted(t: &[u8]) {
     output::ticket(t);
     fields(header::heading(t));
@@ -40,7 +27,15 @@ pub(crate) fn accepted(t: &[u8]) {
     let card = ticket.card;
     fields(answer);
     output::small_list(&card, 5, 3);
-    frames_of_cards(ticket::counts(t));
+    let count = ticket::counts(t);
+    let n: usize = 32;
+    let mut i: usize = 0;
+    let mut shown = false;
+    while i < n {
+        shown = output::of_card(shown, i, count[i], 0);
+        i += 1;
+    }
+    output::of_cards(shown);
 }
 
 // The line at a position, and the number beside it.
@@ -81,7 +76,7 @@ pub(crate) fn all() {
         01000204000000\n|\
         01002000020002\n1F\n00\n|\
         010110000A0004\n0A\n0F\n09\n0A\n|",
-        Show::Accepted,
+        tables::ACCEPTED,
     );
     tables::each(
         b"\nLINES\n\
@@ -92,6 +87,6 @@ pub(crate) fn all() {
         01000300020003\n00\n02\n|\
         01000300020003\n00\n02\n03\n|\
         01000300020003\n00\n02\n01\n00\n|",
-        Show::Lines,
+        tables::LINES,
     );
 }

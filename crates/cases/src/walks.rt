@@ -2,7 +2,6 @@
 use crate::long_lists;
 use crate::output;
 use crate::tables;
-use crate::tables::Show;
 use counting::Position;
 
 // A line that a walker gave, or "end" for the empty part.
@@ -44,16 +43,7 @@ pub(crate) fn walked(t: &[u8]) {
     part(walker::nth(t, Position(65535)));
 }
 
-// A walk through 4,096 lines.
-fn long(t: &[u8]) {
-    output::number(steps(walker::opened(t), 5000, 0), 5);
-    output::text(b". nth at 4,094, 4,095 and 4,096 gives");
-    part(walker::nth(t, Position(4094)));
-    part(walker::nth(t, Position(4095)));
-    part(walker::nth(t, Position(4096)));
-    output::byte(b'\n');
-}
-
+// The last walk is one through 4,096 lines.
 pub(crate) fn all() {
     tables::each(
         b"\nWALKS\n\
@@ -70,9 +60,15 @@ pub(crate) fn all() {
         02000300020003\n00\n02\n01\n|\
         |\
         \nAfter 5,000 steps through 4,096 frames, round robin, the walk stands at position#",
-        Show::Walked,
+        tables::WALKED,
     );
     let mut text = [0u8; 12303];
     long_lists::put_ticket(&mut text, b"01002000C01000\n", b'r');
-    long(&text);
+    let t: &[u8] = &text;
+    output::number(steps(walker::opened(t), 5000, 0), 5);
+    output::text(b". nth at 4,094, 4,095 and 4,096 gives");
+    part(walker::nth(t, Position(4094)));
+    part(walker::nth(t, Position(4095)));
+    part(walker::nth(t, Position(4096)));
+    output::byte(b'\n');
 }

@@ -38,17 +38,17 @@ loop-less c = search needs
 loop-again : tie.Need-loop-again Inv-loop μ-loop
 loop-again c = search needs
 
-sub-show-entry : tie.Need-sub-show-entry Inv-loop μ-loop
-sub-show-entry c = search needs
+sub-show : tie.Need-sub-show Inv-loop μ-loop
+sub-show c = search needs
 
-part-show-entry-start : tie.Need-part-show-entry-start Inv-loop μ-loop
-part-show-entry-start c = search needs
+part-show-start : tie.Need-part-show-start Inv-loop μ-loop
+part-show-start c = search needs
 
-part-show-entry-end : tie.Need-part-show-entry-end Inv-loop μ-loop
-part-show-entry-end c = search needs
+part-show-end : tie.Need-part-show-end Inv-loop μ-loop
+part-show-end c = search needs
 
-show-entry-requires : tie.Need-show-entry-requires Inv-loop μ-loop
-show-entry-requires c κs = search needs
+show-requires : tie.Need-show-requires Inv-loop μ-loop
+show-requires c κs = search needs
 
 loop-less-2 : tie.Need-loop-less-2 Inv-loop μ-loop
 loop-less-2 c = search needs
@@ -80,10 +80,10 @@ each-spec =
     text-requires
     loop-less
     loop-again
-    sub-show-entry
-    part-show-entry-start
-    part-show-entry-end
-    show-entry-requires
+    sub-show
+    part-show-start
+    part-show-end
+    show-requires
     loop-less-2
     loop-again-2
     loop-less-3

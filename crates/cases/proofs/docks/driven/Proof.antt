@@ -1,17 +1,32 @@
--- `cases::docks::steps` meets its contract.
+-- `cases::docks::driven` meets its contract.
 -- Assumes nothing.
 use Prim.Native.Nat.{_≤_, _-_}
 use mathlib.Core.Path.{_≡_}
 use lib.ListN.{length}
 use borrow.Author.Needs.{needs}
-use Rattle.cases.proofs.docks.steps.Statement.{statement}
-use Rattle.cases.proofs.docks.steps.Tie as tie
+use Rattle.cases.proofs.docks.driven.Statement.{statement}
+use Rattle.cases.proofs.docks.driven.Tie as tie
 
 abbrev Inv-loop : tie.InvT-loop
-Inv-loop text memory₀ short₀ n d₀ from₀ i₀ memory short d from i = (i ≤ n) × (from ≤ i) × (length memory ≡ length memory₀) × (length short ≡ length short₀)
+Inv-loop t text memory₀ n d₀ from₀ i₀ memory d from i = (i ≤ n) × (from ≤ i) × (length memory ≡ 4)
 
 abbrev μ-loop : tie.MeasureT-loop
-μ-loop text memory₀ short₀ n d₀ from₀ i₀ memory short d from i = n - i
+μ-loop t text memory₀ n d₀ from₀ i₀ memory d from i = n - i
+
+ticket-requires : tie.Need-ticket-requires Inv-loop μ-loop
+ticket-requires c κs = search needs
+
+slice-aggregate-start : tie.Need-slice-aggregate-start Inv-loop μ-loop
+slice-aggregate-start c = search needs
+
+start-requires : tie.Need-start-requires Inv-loop μ-loop
+start-requires c κs = search needs
+
+slice-aggregate-result : tie.Need-slice-aggregate-result Inv-loop μ-loop
+slice-aggregate-result c = search needs
+
+result-requires : tie.Need-result-requires Inv-loop μ-loop
+result-requires c κs = search needs
 
 loop-holds : tie.Need-loop-holds Inv-loop μ-loop
 loop-holds c = search needs
@@ -22,6 +37,12 @@ shared-slice-read-b c = search needs
 add-i : tie.Need-add-i Inv-loop μ-loop
 add-i c = search needs
 
+loop-less : tie.Need-loop-less Inv-loop μ-loop
+loop-less c = search needs
+
+loop-again : tie.Need-loop-again Inv-loop μ-loop
+loop-again c = search needs
+
 sub-drive : tie.Need-sub-drive Inv-loop μ-loop
 sub-drive c = search needs
 
@@ -31,26 +52,11 @@ part-drive-start c = search needs
 part-drive-end : tie.Need-part-drive-end Inv-loop μ-loop
 part-drive-end c = search needs
 
+slice-aggregate-drive : tie.Need-slice-aggregate-drive Inv-loop μ-loop
+slice-aggregate-drive c = search needs
+
 drive-requires : tie.Need-drive-requires Inv-loop μ-loop
 drive-requires c κs = search needs
-
-loop-less : tie.Need-loop-less Inv-loop μ-loop
-loop-less c = search needs
-
-loop-again : tie.Need-loop-again Inv-loop μ-loop
-loop-again c = search needs
-
-sub-drive-2 : tie.Need-sub-drive-2 Inv-loop μ-loop
-sub-drive-2 c = search needs
-
-part-drive-start-2 : tie.Need-part-drive-start-2 Inv-loop μ-loop
-part-drive-start-2 c = search needs
-
-part-drive-end-2 : tie.Need-part-drive-end-2 Inv-loop μ-loop
-part-drive-end-2 c = search needs
-
-drive-requires-2 : tie.Need-drive-requires-2 Inv-loop μ-loop
-drive-requires-2 c κs = search needs
 
 loop-less-2 : tie.Need-loop-less-2 Inv-loop μ-loop
 loop-less-2 c = search needs
@@ -64,38 +70,32 @@ loop-less-3 c = search needs
 loop-again-3 : tie.Need-loop-again-3 Inv-loop μ-loop
 loop-again-3 c = search needs
 
-same-length : tie.Need-same-length Inv-loop μ-loop
-same-length c = search needs
-
-same-length-2 : tie.Need-same-length-2 Inv-loop μ-loop
-same-length-2 c = search needs
-
 returns : tie.Need-returns Inv-loop μ-loop
 returns c = search needs
 
-pub steps-spec : {M : Type 1} → statement M
-steps-spec =
+pub driven-spec : {M : Type 1} → statement M
+driven-spec =
     tie.close
     (tie.spec
     Inv-loop
     μ-loop
+    ticket-requires
+    slice-aggregate-start
+    start-requires
+    slice-aggregate-result
+    result-requires
     loop-holds
     shared-slice-read-b
     add-i
+    loop-less
+    loop-again
     sub-drive
     part-drive-start
     part-drive-end
+    slice-aggregate-drive
     drive-requires
-    loop-less
-    loop-again
-    sub-drive-2
-    part-drive-start-2
-    part-drive-end-2
-    drive-requires-2
     loop-less-2
     loop-again-2
     loop-less-3
     loop-again-3
-    same-length
-    same-length-2
     returns)
