@@ -6,8 +6,8 @@ use checker::Verdict;
 use plan_run::Answer;
 use plan_run::Outcome;
 
-fn at_fault(name: &[u8], position: u16) {
-    output::text(name);
+fn at_fault(name: usize, position: u16) {
+    output::word(name);
     output::number(position, 6);
     output::pad(0, 12);
 }
@@ -16,14 +16,14 @@ fn at_fault(name: &[u8], position: u16) {
 pub(crate) fn verdict(v: Verdict) {
     match v {
         Verdict::Valid(cycles, peak) => {
-            output::text(b"   valid               ");
+            output::word(output::VALID);
             output::number(cycles.0, 6);
             output::number(peak, 6);
         }
-        Verdict::NoCycle(p) => at_fault(b"   cycle 0       ", p.0),
-        Verdict::SharedCard(p) => at_fault(b"   shares a card ", p.0),
-        Verdict::Overfull(p) => at_fault(b"   overfull      ", p.0),
-        Verdict::Refused(k) => at_fault(b"   refused       ", k as u16),
+        Verdict::NoCycle(p) => at_fault(output::NO_CYCLE, p.0),
+        Verdict::SharedCard(p) => at_fault(output::SHARED_CARD, p.0),
+        Verdict::Overfull(p) => at_fault(output::OVERFULL, p.0),
+        Verdict::Refused(k) => at_fault(output::NO_VERDICT, k as u16),
     }
 }
 
@@ -34,10 +34,10 @@ pub(crate) fn run(a: Answer) {
             let end = r.outcome;
             match end {
                 Outcome::Complete(needed) => {
-                    output::text(b"   complete  ");
+                    output::word(output::COMPLETE);
                     output::number(needed.0, 5);
                 }
-                Outcome::Unfinished => output::text(b"   unfinished     "),
+                Outcome::Unfinished => output::word(output::UNFINISHED),
             }
             output::number(r.delivered, 6);
             output::number(r.ended.0, 6);
@@ -45,7 +45,7 @@ pub(crate) fn run(a: Answer) {
             output::yes_or_no(r.broken);
         }
         Answer::Refused(k) => {
-            output::text(b"   refused   ");
+            output::word(output::NOT_RUN);
             output::small(k, 5);
         }
     }

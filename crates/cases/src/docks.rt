@@ -30,34 +30,37 @@ fn result(r: Driven, memory: &[u8]) {
     output::byte(b'\n');
 }
 
-fn drive(d: Dock, name: &[u8], end: u8, memory: &mut [u8]) -> Dock {
+fn step_of(name: &[u8]) -> Step {
     let position = Position(tables::number(tables::byte_at(name, 5)));
-    let step = match tables::byte_at(name, 0) {
+    match tables::byte_at(name, 0) {
         b'r' => Step::Read(position),
         b'd' => Step::Drop(position),
         _ => Step::End,
-    };
+    }
+}
+
+fn drive_short(d: Dock, step: Step) -> Dock {
+    let mut memory = [77u8; 2];
+    let r = dock::drive(d, step, &mut memory);
+    result(r, &memory);
+    r.dock
+}
+
+fn drive(d: Dock, name: &[u8], end: u8, memory: &mut [u8]) -> Dock {
+    let step = step_of(name);
     output::pad(0, 2);
     output::left(name, 30);
     if end == b'!' {
-        let mut short = [77u8; 2];
-        let r = dock::drive(d, step, &mut short);
-        result(r, &short);
-        return r.dock;
+        return drive_short(d, step);
     }
     let r = dock::drive(d, step, memory);
     result(r, memory);
     r.dock
 }
 
-// With memory of four places.
-pub(crate) fn driven(t: &[u8], text: &[u8]) {
-    let mut memory = [77u8; 4];
-    output::ticket(t);
-    let first = dock::start(t, &mut memory);
-    result(first, &memory);
+fn steps(start: Dock, text: &[u8], memory: &mut [u8]) {
     let n = text.len();
-    let mut d = first.dock;
+    let mut d = start;
     let mut from: usize = 0;
     let mut i: usize = 0;
     while i < n {
@@ -66,12 +69,21 @@ pub(crate) fn driven(t: &[u8], text: &[u8]) {
         i += 1;
         match b {
             b'!'..=b',' => {
-                d = drive(d, &text[from..at], b, &mut memory);
+                d = drive(d, &text[from..at], b, memory);
                 from = i;
             }
             _ => {}
         }
     }
+}
+
+// With memory of four places.
+pub(crate) fn driven(t: &[u8], text: &[u8]) {
+    let mut memory = [77u8; 4];
+    output::ticket(t);
+    let r = dock::start(t, &mut memory);
+    result(r, &memory);
+    steps(r.dock, text, &mut memory);
 }
 
 pub(crate) fn all() {

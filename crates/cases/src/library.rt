@@ -48,21 +48,26 @@ fn judging(t: &[u8], plan: &[u16]) {
     output::number(ran.peak, 3);
 }
 
-// A ticket, and a plan of three cycles. dockplan_plan has three places, and dockplan_print 60.
-pub(crate) fn called(t: &[u8], text: &[u8]) {
+// dockplan_plan with three places, and how many bytes dockplan_print puts into 60.
+fn planning(t: &[u8]) {
     let mut buffer = [9u16; 3];
-    let mut room = [0u8; 60];
-    let mut plan = [0u16; 3];
-    output::ticket(t);
-    reading(t);
+    let mut text = [0u8; 60];
     let a = dockplan_plan(t, &mut buffer);
     output::small(a.refusal, 6);
     output::number(a.cycles.0, 3);
     output::list(&buffer, 3, 3);
-    output::size(dockplan_print(t, &mut room), 6);
-    output::pad(0, 3);
+    output::size(dockplan_print(t, &mut text), 6);
+}
+
+// A ticket, and a plan of three cycles.
+pub(crate) fn called(t: &[u8], text: &[u8]) {
+    let mut plan = [0u16; 3];
     checks::read_plan(text, &mut plan);
     let given: &[u16] = &plan;
+    output::ticket(t);
+    reading(t);
+    planning(t);
+    output::pad(0, 3);
     output::list(given, 3, 3);
     judging(t, given);
 }

@@ -66,11 +66,62 @@ pub(crate) fn small_list(a: &[u8], n: usize, width: usize) {
     }
 }
 
+// The words of the tables, in the order of `word`.
+pub(crate) const VALID: usize = 0;
+
+pub(crate) const NO_CYCLE: usize = 1;
+
+pub(crate) const SHARED_CARD: usize = 2;
+
+pub(crate) const OVERFULL: usize = 3;
+
+pub(crate) const NO_VERDICT: usize = 4;
+
+pub(crate) const COMPLETE: usize = 5;
+
+pub(crate) const UNFINISHED: usize = 6;
+
+pub(crate) const NOT_RUN: usize = 7;
+
+pub(crate) const PLANNED: usize = 8;
+
+pub(crate) const NOT_PLANNED: usize = 9;
+
+pub(crate) const YES: usize = 10;
+
+pub(crate) const NO: usize = 11;
+
+pub(crate) const NONE: usize = 12;
+
+pub(crate) const NEW: usize = 13;
+
+pub(crate) const SAVE: usize = 14;
+
+pub(crate) const CLOSE: usize = 15;
+
+pub(crate) fn word(k: usize) {
+    let words = b"\x20  valid               |   cycle 0       |   shares a card |   overfull      |\
+        \x20  refused       |   complete  |   unfinished     |   refused   |T      |refused|     yes|\
+        \x20     no| none|new  |\nsave |\nclose|";
+    let n = words.len();
+    let mut before: usize = 0;
+    let mut i: usize = 0;
+    while i < n {
+        let b = words[i];
+        i += 1;
+        if b == b'|' {
+            before += 1;
+        } else if before == k {
+            byte(b);
+        }
+    }
+}
+
 pub(crate) fn yes_or_no(yes: bool) {
     if yes {
-        text(b"     yes");
+        word(YES);
     } else {
-        text(b"      no");
+        word(NO);
     }
 }
 
@@ -89,7 +140,7 @@ pub(crate) fn of_card(shown: bool, card: usize, n: u16, none: u16) -> bool {
 // The end of such numbers.
 pub(crate) fn of_cards(shown: bool) {
     if !shown {
-        text(b" none");
+        word(NONE);
     }
 }
 

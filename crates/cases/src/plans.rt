@@ -7,11 +7,11 @@ use planner::Answer;
 pub(crate) fn answer(a: Answer) {
     match a {
         Answer::Planned(cycles) => {
-            output::text(b"T      ");
+            output::word(output::PLANNED);
             output::number(cycles.0, 5);
         }
         Answer::Refused(k) => {
-            output::text(b"refused");
+            output::word(output::NOT_PLANNED);
             output::small(k, 5);
         }
     }

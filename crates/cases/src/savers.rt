@@ -40,7 +40,7 @@ fn answered(a: Answer) -> Saver
 fn open(cards: u8, pool: u16, library: bool) -> Saver
     ensures { λ r. ⌜ Given r ⌝ }
 {
-    output::text(b"new  ");
+    output::word(output::NEW);
     if library {
         return answered(dockplan_saver_new(cards, pool));
     }
@@ -72,7 +72,7 @@ fn call(s: Saver, b: u8, library: bool) -> Saver
         return many(s);
     }
     if b == b'c' {
-        output::text(b"\nclose");
+        output::word(output::CLOSE);
         if library {
             return answered(dockplan_saver_close(s));
         }
@@ -80,7 +80,7 @@ fn call(s: Saver, b: u8, library: bool) -> Saver
         return answered(s.close());
     }
     let card = (tables::number(b) % 256) as u8;
-    output::text(b"\nsave ");
+    output::word(output::SAVE);
     if library {
         return answered(dockplan_saver_save(s, card));
     }

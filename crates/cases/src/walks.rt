@@ -43,7 +43,16 @@ pub(crate) fn walked(t: &[u8]) {
     part(walker::nth(t, Position(65535)));
 }
 
-// The last walk is one through 4,096 lines.
+// A walk through 4,096 lines.
+fn long(t: &[u8]) {
+    output::number(steps(walker::opened(t), 5000, 0), 5);
+    output::text(b". nth at 4,094, 4,095 and 4,096 gives");
+    part(walker::nth(t, Position(4094)));
+    part(walker::nth(t, Position(4095)));
+    part(walker::nth(t, Position(4096)));
+    output::byte(b'\n');
+}
+
 pub(crate) fn all() {
     tables::each(
         b"\nWALKS\n\
@@ -64,11 +73,5 @@ pub(crate) fn all() {
     );
     let mut text = [0u8; 12303];
     long_lists::put_ticket(&mut text, b"01002000C01000\n", b'r');
-    let t: &[u8] = &text;
-    output::number(steps(walker::opened(t), 5000, 0), 5);
-    output::text(b". nth at 4,094, 4,095 and 4,096 gives");
-    part(walker::nth(t, Position(4094)));
-    part(walker::nth(t, Position(4095)));
-    part(walker::nth(t, Position(4096)));
-    output::byte(b'\n');
+    long(&text);
 }

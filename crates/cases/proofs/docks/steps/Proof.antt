@@ -1,32 +1,17 @@
--- `cases::docks::driven` meets its contract.
+-- `cases::docks::steps` meets its contract.
 -- Assumes nothing.
 use Prim.Native.Nat.{_≤_, _-_}
 use mathlib.Core.Path.{_≡_}
 use lib.ListN.{length}
 use borrow.Author.Needs.{needs}
-use Rattle.cases.proofs.docks.driven.Statement.{statement}
-use Rattle.cases.proofs.docks.driven.Tie as tie
+use Rattle.cases.proofs.docks.steps.Statement.{statement}
+use Rattle.cases.proofs.docks.steps.Tie as tie
 
 abbrev Inv-loop : tie.InvT-loop
-Inv-loop t text memory₀ n d₀ from₀ i₀ memory d from i = (i ≤ n) × (from ≤ i) × (length memory ≡ 4)
+Inv-loop text memory₀ n d₀ from₀ i₀ memory d from i = (i ≤ n) × (from ≤ i) × (length memory ≡ length memory₀)
 
 abbrev μ-loop : tie.MeasureT-loop
-μ-loop t text memory₀ n d₀ from₀ i₀ memory d from i = n - i
-
-ticket-requires : tie.Need-ticket-requires Inv-loop μ-loop
-ticket-requires c κs = search needs
-
-slice-aggregate-start : tie.Need-slice-aggregate-start Inv-loop μ-loop
-slice-aggregate-start c = search needs
-
-start-requires : tie.Need-start-requires Inv-loop μ-loop
-start-requires c κs = search needs
-
-slice-aggregate-result : tie.Need-slice-aggregate-result Inv-loop μ-loop
-slice-aggregate-result c = search needs
-
-result-requires : tie.Need-result-requires Inv-loop μ-loop
-result-requires c κs = search needs
+μ-loop text memory₀ n d₀ from₀ i₀ memory d from i = n - i
 
 loop-holds : tie.Need-loop-holds Inv-loop μ-loop
 loop-holds c = search needs
@@ -52,9 +37,6 @@ part-drive-start c = search needs
 part-drive-end : tie.Need-part-drive-end Inv-loop μ-loop
 part-drive-end c = search needs
 
-slice-aggregate-drive : tie.Need-slice-aggregate-drive Inv-loop μ-loop
-slice-aggregate-drive c = search needs
-
 drive-requires : tie.Need-drive-requires Inv-loop μ-loop
 drive-requires c κs = search needs
 
@@ -70,20 +52,18 @@ loop-less-3 c = search needs
 loop-again-3 : tie.Need-loop-again-3 Inv-loop μ-loop
 loop-again-3 c = search needs
 
+same-length : tie.Need-same-length Inv-loop μ-loop
+same-length c = search needs
+
 returns : tie.Need-returns Inv-loop μ-loop
 returns c = search needs
 
-pub driven-spec : {M : Type 1} → statement M
-driven-spec =
+pub steps-spec : {M : Type 1} → statement M
+steps-spec =
     tie.close
     (tie.spec
     Inv-loop
     μ-loop
-    ticket-requires
-    slice-aggregate-start
-    start-requires
-    slice-aggregate-result
-    result-requires
     loop-holds
     shared-slice-read-b
     add-i
@@ -92,10 +72,10 @@ driven-spec =
     sub-drive
     part-drive-start
     part-drive-end
-    slice-aggregate-drive
     drive-requires
     loop-less-2
     loop-again-2
     loop-less-3
     loop-again-3
+    same-length
     returns)
