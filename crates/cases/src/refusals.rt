@@ -27,13 +27,8 @@ fn reader(t: &[u8], position: u16) {
     output::list(&count, 2, 3);
 }
 
-// The calls that use a ticket: plan, check, run_plan, start; the buffer, the memory and the dock afterwards.
-fn users(t: &[u8], plan: &[u16], buffer: &mut [u16], memory: &mut [u8]) {
-    let planned = planner::plan(t, buffer);
-    match planned {
-        planner::Answer::Planned(_) => output::small(0, 6),
-        planner::Answer::Refused(k) => output::small(k, 6),
-    }
+// The calls that use a plan: check, run_plan.
+fn plan_users(t: &[u8], plan: &[u16]) {
     let verdict = checker::check(t, plan);
     match verdict {
         checker::Verdict::Refused(k) => output::small(k, 6),
@@ -44,6 +39,16 @@ fn users(t: &[u8], plan: &[u16], buffer: &mut [u16], memory: &mut [u8]) {
         plan_run::Answer::Ran(_) => output::small(0, 6),
         plan_run::Answer::Refused(k) => output::small(k, 6),
     }
+}
+
+// The calls that use a ticket: plan, check, run_plan, start; the buffer, the memory and the dock afterwards.
+fn users(t: &[u8], plan: &[u16], buffer: &mut [u16], memory: &mut [u8]) {
+    let planned = planner::plan(t, buffer);
+    match planned {
+        planner::Answer::Planned(_) => output::small(0, 6),
+        planner::Answer::Refused(k) => output::small(k, 6),
+    }
+    plan_users(t, plan);
     let started = dock::start(t, memory);
     output::small(started.refusal, 6);
     output::list(buffer, 3, 3);

@@ -40,22 +40,7 @@ pub(crate) const CALLED: u8 = 12;
 
 pub(crate) const SAVED_BY_LIBRARY: u8 = 13;
 
-// Shows an entry, and ends its last line.
-fn show(entry: &[u8], how: u8) {
-    let start: usize = 0;
-    let end = entry.len();
-    let mut at = end;
-    let mut next = end;
-    let mut i = end;
-    while 0 < i {
-        i -= 1;
-        if entry[i] == b' ' {
-            at = i;
-            next = i + 1;
-        }
-    }
-    let t = &entry[start..at];
-    let more = &entry[next..end];
+fn show_ticket(t: &[u8], more: &[u8], how: u8) {
     match how {
         ACCEPTED => tickets::accepted(t),
         LINES => tickets::lines(t),
@@ -72,6 +57,23 @@ fn show(entry: &[u8], how: u8) {
         SAVED_BY_LIBRARY => savers::series(t, more, true),
         _ => {}
     }
+}
+
+// Shows an entry, and ends its last line.
+fn show(entry: &[u8], how: u8) {
+    let start: usize = 0;
+    let end = entry.len();
+    let mut at = end;
+    let mut next = end;
+    let mut i = end;
+    while 0 < i {
+        i -= 1;
+        if entry[i] == b' ' {
+            at = i;
+            next = i + 1;
+        }
+    }
+    show_ticket(&entry[start..at], &entry[next..end], how);
     output::byte(b'\n');
 }
 

@@ -18,16 +18,8 @@ fn fields(a: Answer) {
     }
 }
 
-// What heading, parse and counts say of a ticket: the cards that have frames as card:frames.
-pub(crate) fn accepted(t: &[u8]) {
-    output::ticket(t);
-    fields(header::heading(t));
-    let ticket = ticket::parse(t);
-    let answer = ticket.answer;
-    let card = ticket.card;
-    fields(answer);
-    output::small_list(&card, 5, 3);
-    let count = ticket::counts(t);
+// The cards that have frames, as card:frames.
+fn frames_of_cards(count: [u16; 32]) {
     let n: usize = 32;
     let mut i: usize = 0;
     let mut shown = false;
@@ -36,6 +28,18 @@ pub(crate) fn accepted(t: &[u8]) {
         i += 1;
     }
     output::of_cards(shown);
+}
+
+// What heading, parse and counts say of a ticket.
+pub(crate) fn accepted(t: &[u8]) {
+    output::ticket(t);
+    fields(header::heading(t));
+    let ticket = ticket::parse(t);
+    let answer = ticket.answer;
+    let card = ticket.card;
+    fields(answer);
+    output::small_list(&card, 5, 3);
+    frames_of_cards(ticket::counts(t));
 }
 
 // The line at a position, and the number beside it.

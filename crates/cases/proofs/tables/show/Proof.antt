@@ -35,62 +35,26 @@ loop-less-2 c = search needs
 loop-again-2 : tie.Need-loop-again-2 Inv-loop μ-loop
 loop-again-2 c = search needs
 
-sub-t : tie.Need-sub-t Inv-loop μ-loop
-sub-t c = search needs
+sub-show-ticket : tie.Need-sub-show-ticket Inv-loop μ-loop
+sub-show-ticket c = search needs
 
-part-t-start : tie.Need-part-t-start Inv-loop μ-loop
-part-t-start c = search needs
+part-show-ticket-start : tie.Need-part-show-ticket-start Inv-loop μ-loop
+part-show-ticket-start c = search needs
 
-part-t-end : tie.Need-part-t-end Inv-loop μ-loop
-part-t-end c = search needs
+part-show-ticket-end : tie.Need-part-show-ticket-end Inv-loop μ-loop
+part-show-ticket-end c = search needs
 
-sub-more : tie.Need-sub-more Inv-loop μ-loop
-sub-more c = search needs
+sub-show-ticket-2 : tie.Need-sub-show-ticket-2 Inv-loop μ-loop
+sub-show-ticket-2 c = search needs
 
-part-more-start : tie.Need-part-more-start Inv-loop μ-loop
-part-more-start c = search needs
+part-show-ticket-start-2 : tie.Need-part-show-ticket-start-2 Inv-loop μ-loop
+part-show-ticket-start-2 c = search needs
 
-part-more-end : tie.Need-part-more-end Inv-loop μ-loop
-part-more-end c = search needs
+part-show-ticket-end-2 : tie.Need-part-show-ticket-end-2 Inv-loop μ-loop
+part-show-ticket-end-2 c = search needs
 
-accepted-requires : tie.Need-accepted-requires Inv-loop μ-loop
-accepted-requires c κs = search needs
-
-lines-requires : tie.Need-lines-requires Inv-loop μ-loop
-lines-requires c κs = search needs
-
-walked-requires : tie.Need-walked-requires Inv-loop μ-loop
-walked-requires c κs = search needs
-
-refused-requires : tie.Need-refused-requires Inv-loop μ-loop
-refused-requires c κs = search needs
-
-too-short-requires : tie.Need-too-short-requires Inv-loop μ-loop
-too-short-requires c κs = search needs
-
-planned-requires : tie.Need-planned-requires Inv-loop μ-loop
-planned-requires c κs = search needs
-
-printed-requires : tie.Need-printed-requires Inv-loop μ-loop
-printed-requires c κs = search needs
-
-checked-requires : tie.Need-checked-requires Inv-loop μ-loop
-checked-requires c κs = search needs
-
-driven-requires : tie.Need-driven-requires Inv-loop μ-loop
-driven-requires c κs = search needs
-
-series-requires : tie.Need-series-requires Inv-loop μ-loop
-series-requires c κs = search needs
-
-planned-requires-2 : tie.Need-planned-requires-2 Inv-loop μ-loop
-planned-requires-2 c κs = search needs
-
-called-requires : tie.Need-called-requires Inv-loop μ-loop
-called-requires c κs = search needs
-
-series-requires-2 : tie.Need-series-requires-2 Inv-loop μ-loop
-series-requires-2 c κs = search needs
+show-ticket-requires : tie.Need-show-ticket-requires Inv-loop μ-loop
+show-ticket-requires c κs = search needs
 
 byte-requires : tie.Need-byte-requires Inv-loop μ-loop
 byte-requires c κs = search needs
@@ -112,24 +76,12 @@ show-spec =
     loop-again
     loop-less-2
     loop-again-2
-    sub-t
-    part-t-start
-    part-t-end
-    sub-more
-    part-more-start
-    part-more-end
-    accepted-requires
-    lines-requires
-    walked-requires
-    refused-requires
-    too-short-requires
-    planned-requires
-    printed-requires
-    checked-requires
-    driven-requires
-    series-requires
-    planned-requires-2
-    called-requires
-    series-requires-2
+    sub-show-ticket
+    part-show-ticket-start
+    part-show-ticket-end
+    sub-show-ticket-2
+    part-show-ticket-start-2
+    part-show-ticket-end-2
+    show-ticket-requires
     byte-requires
     returns)
