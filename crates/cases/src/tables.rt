@@ -1,6 +1,6 @@
 // The tables: a table is a text. In it # ends a text that is printed as it stands, and | ends an entry, which is shown as the table says. An
-// entry is a ticket; what follows the first space in it goes with the ticket: a plan, steps of the dock, the layout of a long list, or a dot
-// for each place that a lent buffer has less.
+// entry is a ticket or a new saver; what follows the first space in it goes with that: a plan, steps of the dock, calls of the saver, the
+// layout of a long list, or a dot for each place that a lent buffer has less.
 use crate::checks;
 use crate::docks;
 use crate::library;
@@ -101,7 +101,7 @@ pub(crate) fn byte_at(text: &[u8], i: usize) -> u8 {
     if i < text.len() { text[i] } else { 0 }
 }
 
-// The number that a byte of an entry stands for: a digit, or a letter for a boundary.
+// The number that a byte of an entry stands for: a digit, or a letter for one at a limit.
 pub(crate) fn number(b: u8) -> u16 {
     match b {
         b'C' => 32,
