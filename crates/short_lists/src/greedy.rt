@@ -1,110 +1,73 @@
-// greedyWriting, lazy prefetching and save and keep, as document 01 tells them: a pool, and cycles that are made one by one.
-// Of the first `entered` frames of the list, those whose cycle is 0 wait in the pool. Cards are below 3.
-use crate::lists;
+// greedyWriting, lazy prefetching and save and keep, as document 01 tells them: a pool, and cycles that are made one by one. A schedule is
+// the list of the frames' cycles, with the number of cycles made, which is T in the end, behind 8 of them.
+// Of the first `entered` frames of the list, those whose cycle is 0 wait in the pool.
 use crate::lists::at;
-use crate::lists::set;
+use crate::lists::with;
+use crate::tickets;
+use crate::tickets::Case;
+use std::num::wrapping_add_u64;
+use std::num::wrapping_sub_u64;
 
-fn waiting(cycles: &[u16; 8], entered: usize) -> u16 {
-    let mut count: u16 = 0;
-    let mut i: usize = 0;
-    while i < entered {
-        if at(cycles, i) == 0 {
-            count = std::num::wrapping_add_u16(count, 1);
-        }
-        i += 1;
-    }
-    count
-}
+pub(crate) const MADE: u64 = 8;
 
-// The frame of a card that waits and is first in the list; `entered` where none waits.
-fn first_waiting(cards: &[u16], cycles: &[u16; 8], entered: usize, card: u16) -> usize {
-    let mut i: usize = 0;
+// One cycle, if at least so many frames wait: every card with waiting frames writes the one that is first in the list.
+fn cycle_if(c: Case, schedule: u64, entered: u64, least: u64) -> u64 {
+    let made = wrapping_add_u64(at(schedule, MADE), 1);
+    let mut after = with(schedule, MADE, made);
+    let mut wrote: u64 = 0;
+    let mut waiting: u64 = 0;
+    let mut i: u64 = 0;
     while i < entered {
-        if at(cards, i) == card {
-            if at(cycles, i) == 0 {
-                return i;
+        if at(schedule, i) == 0 {
+            waiting = wrapping_add_u64(waiting, 1);
+            if at(wrote, at(c.cards, i)) == 0 {
+                wrote = with(wrote, at(c.cards, i), 1);
+                after = with(after, i, made);
             }
         }
         i += 1;
     }
-    entered
+    if waiting < least { schedule } else { after }
 }
 
-// One cycle: every card with waiting frames writes the one that is first in the list.
-fn one_cycle(cards: &[u16], cycles: &mut [u16; 8], entered: usize, cycle: u16) {
-    let mut card: u16 = 0;
-    while card < 3 {
-        let i = first_waiting(cards, cycles, entered, card);
-        if i < entered {
-            set(cycles, i, cycle);
+// greedyWriting takes the frames in order, with one cycle before each that finds m in the pool. Then, but not in save and keep, closing
+// cycles follow until the pool is empty, and each writes a frame.
+pub(crate) fn greedy_writing(c: Case) -> u64 {
+    let mut schedule: u64 = 0;
+    let mut i: u64 = 0;
+    while i < 16 {
+        if i < c.n {
+            schedule = cycle_if(c, schedule, i, c.m);
+        } else {
+            if c.mode != tickets::SAVE_AND_KEEP {
+                schedule = cycle_if(c, schedule, c.n, 1);
+            }
         }
-        card += 1;
-    }
-}
-
-// One cycle if at least so many frames wait; answers how many cycles are made then.
-fn cycle_if(cards: &[u16], cycles: &mut [u16; 8], entered: usize, made: u16, least: u16) -> u16 {
-    if waiting(cycles, entered) < least {
-        return made;
-    }
-    let cycle = std::num::wrapping_add_u16(made, 1);
-    one_cycle(cards, cycles, entered, cycle);
-    cycle
-}
-
-// Save and keep, into a schedule of zeros: takes the frames in order, with one cycle before each that finds m in the pool. Answers T.
-pub(crate) fn save_and_keep(cards: &[u16], m: u16, cycles: &mut [u16; 8]) -> u16 {
-    let n = cards.len();
-    let mut made: u16 = 0;
-    let mut entered: usize = 0;
-    while entered < n {
-        made = cycle_if(cards, cycles, entered, made, m);
-        entered += 1;
-    }
-    made
-}
-
-// greedyWriting, into a schedule of zeros: closing cycles follow until the pool is empty, and each writes a frame. Answers T.
-pub(crate) fn greedy_writing(cards: &[u16], m: u16, cycles: &mut [u16; 8]) -> u16 {
-    let n = cards.len();
-    let mut made = save_and_keep(cards, m, cycles);
-    let mut i: usize = 0;
-    while i < n {
-        made = cycle_if(cards, cycles, n, made, 1);
         i += 1;
     }
-    made
+    schedule
 }
 
-fn reversed(list: &[u16]) -> [u16; 8] {
-    let n = list.len();
-    let mut back = [0u16; 8];
-    let mut i: usize = 0;
+// The first n numbers of a list in reverse, each taken from a number.
+fn reversed(list: u64, n: u64, from: u64) -> u64 {
+    let mut back: u64 = 0;
+    let mut i: u64 = 0;
     while i < n {
-        set(&mut back, i, at(list, n - 1 - i));
         i += 1;
+        back = with(back, n - i, wrapping_sub_u64(from, at(list, i - 1)));
     }
     back
 }
 
-// T - c + 1 for each cycle c of a list.
-fn turned(list: &[u16], t: u16, cycles: &mut [u16; 8]) {
-    let n = list.len();
-    let after = std::num::wrapping_add_u16(t, 1);
-    let mut i: usize = 0;
-    while i < n {
-        set(cycles, i, std::num::wrapping_sub_u16(after, at(list, i)));
-        i += 1;
+// The schedule that document 01 gives for a ticket. That of a read is lazy prefetching: greedyWriting on the reversed list, and then T - c + 1
+// for each cycle c, reversed back. The cards of the reversed list are renamed, c as 2 - c, which changes no schedule.
+pub(crate) fn schedule(c: Case) -> u64 {
+    if c.mode != tickets::READ {
+        return greedy_writing(c);
     }
-}
-
-// Lazy prefetching: greedyWriting on the reversed list, turned round. Answers T.
-pub(crate) fn lazy_prefetching(cards: &[u16], m: u16, cycles: &mut [u16; 8]) -> u16 {
-    let n = cards.len();
-    let list = reversed(cards);
-    let mut written = [0u16; 8];
-    let t = greedy_writing(lists::front(&list, n), m, &mut written);
-    let read = reversed(lists::front(&written, n));
-    turned(lists::front(&read, n), t, cycles);
-    t
+    let mut back = c;
+    back.cards = reversed(c.cards, c.n, 2);
+    let written = greedy_writing(back);
+    let t = at(written, MADE);
+    with(reversed(written, c.n, wrapping_add_u64(t, 1)), MADE, t)
 }

@@ -1,107 +1,72 @@
-// Lists of up to 8 small numbers, counted through: the cards of a list of frames, or its cycles. And the text of a list's ticket.
-use crate::report;
+// A list of up to 9 numbers below 128 is one number, with 7 bits for each place, those of the first place lowest. The places behind a list
+// have 0. So are written the cards of a list of frames, its cycles, and an answer of several parts.
 
-// The modes, as document 01 numbers them.
-pub(crate) const READ: u8 = 0;
-
-pub(crate) const SAVE: u8 = 1;
-
-pub(crate) const SAVE_AND_KEEP: u8 = 2;
-
-pub(crate) fn at(list: &[u16], i: usize) -> u16 {
-    if i < list.len() { list[i] } else { 0 }
+// The number at a place.
+pub(crate) fn at(list: u64, i: u64) -> u64 {
+    (list >> (7 * (i % 9))) & 127
 }
 
-pub(crate) fn set(list: &mut [u16; 8], i: usize, x: u16) {
-    if i < 8 {
-        list[i] = x;
-    }
+// The list with x at a place. 127 stands for every larger number.
+pub(crate) fn with(list: u64, i: u64, x: u64) -> u64 {
+    let shift = 7 * (i % 9);
+    let put = if x < 127 { x } else { 127 };
+    (list ^ (((list >> shift) & 127) << shift)) | (put << shift)
 }
 
-fn part(list: &[u16], n: usize) -> &[u16] {
-    if list.len() < n {
-        return &list[0..0];
-    }
-    &list[0..n]
+// The list of six numbers.
+pub(crate) fn list(a: u64, b: u64, c: u64, d: u64, e: u64, f: u64) -> u64 {
+    with(
+        with(with(with(with(with(0, 0, a), 1, b), 2, c), 3, d), 4, e),
+        5,
+        f,
+    )
 }
 
-// The first n numbers of a list.
-pub(crate) fn front(list: &[u16; 8], n: usize) -> &[u16] {
-    part(list, n)
-}
-
-// How many numbers a list has.
-pub(crate) fn size(list: &[u16]) -> u16 {
-    let n = list.len();
-    if n < 9 { n as u16 } else { 0 }
-}
-
-pub(crate) fn least(a: u16, b: u16) -> u16 {
-    if a < b { a } else { b }
-}
-
-fn times(a: u64, b: u64) -> u64 {
-    let mut sum: u64 = 0;
-    let mut i: u64 = 0;
-    while i < b {
-        sum = report::more(sum, a);
-        i += 1;
-    }
-    sum
-}
-
-// How many lists of n numbers from 0 to `last` there are.
-pub(crate) fn how_many(n: usize, last: u16) -> u64 {
-    let choices = report::more(last as u64, 1);
+// How many lists of n numbers from 0 to `last` there are; n and `last` are small.
+pub(crate) fn how_many(n: u64, last: u64) -> u64 {
+    let choices = last % 8 + 1;
     let mut product: u64 = 1;
-    let mut i: usize = 0;
+    let mut i: u64 = 0;
     while i < n {
-        product = times(product, choices);
         i += 1;
+        if product < 1000000 {
+            product = product * choices;
+        }
     }
     product
 }
 
-// The next list of n numbers from 0 to `last`; after the last one comes the first.
-pub(crate) fn next(list: &mut [u16; 8], n: usize, last: u16) {
-    let mut i: usize = 0;
-    while i < n {
-        let x = at(list, i);
-        if x < last {
-            set(list, i, x + 1);
-            return;
-        }
-        set(list, i, 0);
+// The list of this number among those of up to 8 numbers from 0 to `last`.
+pub(crate) fn numbered(number: u64, last: u64) -> u64 {
+    let choices = last % 8 + 1;
+    let mut list: u64 = 0;
+    let mut rest = number;
+    let mut i: u64 = 0;
+    while i < 8 {
+        list = with(list, i, rest % choices);
+        rest = rest / choices;
         i += 1;
     }
+    list
 }
 
-fn digit(x: u16) -> u8 {
-    if x < 10 { 48 + (x as u8) } else { 63 }
-}
-
-// The ticket of a list of up to 8 cards below 3, followed by more lines.
-pub(crate) fn ticket_of(mode: u8, pool: u16, cards: &[u16]) -> [u8; 39] {
-    let mut text = *b"01000300000000\n00\n00\n00\n00\n00\n00\n00\n00\n";
-    text[3] = digit(mode as u16);
-    text[9] = digit(pool);
-    text[13] = digit(size(cards));
+// The first 8 places of a list as an array, and back.
+pub(crate) fn to_array(list: u64) -> [u16; 8] {
+    let mut array = [0u16; 8];
     let mut i: usize = 0;
     while i < 8 {
-        text[3 * i + 16] = digit(at(cards, i));
+        array[i] = (at(list, i as u64) % 128) as u16;
         i += 1;
     }
-    text
+    array
 }
 
-// The ticket of n frames at the front of such a text.
-pub(crate) fn ticket_in(text: &[u8], n: usize) -> &[u8] {
-    if 8 < n {
-        return &text[0..0];
+pub(crate) fn from_array(array: [u16; 8]) -> u64 {
+    let mut list: u64 = 0;
+    let mut i: usize = 0;
+    while i < 8 {
+        list = with(list, i as u64, array[i] as u64);
+        i += 1;
     }
-    let end = 15 + 3 * n;
-    if text.len() < end {
-        return &text[0..0];
-    }
-    &text[0..end]
+    list
 }

@@ -3,68 +3,79 @@
 mod bench;
 mod greedy;
 mod lists;
-mod plans;
 mod report;
 mod rules;
 mod runs;
 mod saves;
 mod schedules;
 mod steps;
+mod tickets;
 
-// A ticket to read or to save: the saver; for lists of up to 5 frames the search through all schedules; and for reads of 1 to 3 frames all
-// short lists of dock steps.
-fn search(counts: &mut [u64; 32], ticket: &[u8], save: bool, cards: &[u16], m: u16) {
-    let n = cards.len();
-    if save {
-        saves::compare_saver(counts, ticket, cards, m);
-    } else {
-        if (0 < n) & (n < 4) {
-            steps::compare_all(counts, ticket, cards, m);
-        }
-    }
-    if n < 6 {
-        let fewest = schedules::search(counts, ticket, save, cards, m);
-        plans::compare_fewest(counts, ticket, save, cards, m, fewest);
+use tickets::Case;
+
+// A planner's answer: T, or a number past every T for a refusal.
+fn answer_of(a: planner::Answer) -> u64 {
+    match a {
+        planner::Answer::Planned(t) => t.0 as u64,
+        planner::Answer::Refused(number) => 1000000 + (number as u64),
     }
 }
 
-fn one_ticket(counts: &mut [u64; 32], mode: u8, cards: &[u16], m: u16) {
-    let text = lists::ticket_of(mode, m, cards);
-    let ticket = lists::ticket_in(&text, cards.len());
-    plans::compare_plan(counts, ticket, mode, cards, m);
-    if mode < lists::SAVE_AND_KEEP {
-        search(counts, ticket, mode == lists::SAVE, cards, m);
+// One ticket: T and the plan, with the zeros that were lent behind it, against greedyWriting; then what else is compared of it. A ticket with
+// differences is written out after them.
+fn one_ticket(counts: &mut [u64; 32], c: Case) {
+    let before = report::add(counts, report::DIFFERENCES, 0);
+    let text = tickets::text_of(c);
+    let ticket = &text[0..15 + 3 * ((c.n % 9) as usize)];
+    let mut buffer = [0u16; 8];
+    let planned = planner::plan(ticket, &mut buffer);
+    let t = answer_of(planned);
+    let plan = lists::from_array(buffer);
+    report::compare(
+        counts,
+        report::PLANS,
+        report::NO_KIND,
+        0,
+        greedy::schedule(c),
+        lists::with(plan, greedy::MADE, t),
+    );
+    if c.mode == tickets::SAVE {
+        saves::compare_saver(counts, c);
+    }
+    steps::compare_all(counts, ticket, c, t);
+    schedules::compare_fewest(counts, ticket, c, plan, t);
+    if report::add(counts, report::DIFFERENCES, 0) != before {
+        io::write_all(libc::STDOUT_FILENO, ticket);
     }
 }
 
-fn one_list(counts: &mut [u64; 32], cards: &[u16]) {
+// One list with pools 1 to 4 in the three modes.
+fn one_list(counts: &mut [u64; 32], n: u64, cards: u64) {
     report::add(counts, report::LISTS, 1);
-    let mut m: u16 = 1;
-    while m < 5 {
-        one_ticket(counts, lists::READ, cards, m);
-        one_ticket(counts, lists::SAVE, cards, m);
-        one_ticket(counts, lists::SAVE_AND_KEEP, cards, m);
-        m += 1;
-    }
-}
-
-// All lists of n frames.
-fn one_length(counts: &mut [u64; 32], n: usize) {
-    let total = lists::how_many(n, 2);
-    let mut cards = [0u16; 8];
     let mut turn: u64 = 0;
-    while turn < total {
-        one_list(counts, lists::front(&cards, n));
-        lists::next(&mut cards, n, 2);
+    while turn < 12 {
+        let c = Case {
+            mode: turn % 3,
+            m: turn / 3 + 1,
+            n: n,
+            cards: cards,
+        };
+        one_ticket(counts, c);
         turn += 1;
     }
 }
 
+// All lists of 0 to 8 frames.
 fn main() {
     let mut counts = [0u64; 32];
-    let mut n: usize = 0;
+    let mut n: u64 = 0;
     while n < 9 {
-        one_length(&mut counts, n);
+        let total = lists::how_many(n, 2);
+        let mut number: u64 = 0;
+        while number < total {
+            one_list(&mut counts, n, lists::numbered(number, 2));
+            number += 1;
+        }
         n += 1;
     }
     report::summary(&counts);

@@ -1,194 +1,116 @@
 // The counters, and what the program writes: the first difference of each topic, and at the end all counts.
-// An answer that is compared is one number, with two decimal digits for each of its parts.
-use crate::lists;
+// An answer that is compared is one number: a list, or a number of cycles.
 use libc::STDOUT_FILENO;
 
-// The topics. A topic's first counter has the answers compared, and the one 8 places on the differences.
-pub(crate) const PLANS: usize = 0;
-
-pub(crate) const FEWEST: usize = 1;
-
-pub(crate) const VERDICTS: usize = 2;
-
-pub(crate) const RUNS: usize = 3;
-
-pub(crate) const DOCKS: usize = 4;
-
-pub(crate) const STEPS: usize = 5;
-
-pub(crate) const SAVERS: usize = 6;
-
-// The other counters.
-pub(crate) const LISTS: usize = 16;
+// Counters. Each of the first 14 has the line of its own number in TEXT.
+pub(crate) const LISTS: usize = 0;
 
 // Of the four kinds of schedules: correct, cycle 0, shared card, overfull.
-pub(crate) const KINDS: usize = 17;
+pub(crate) const KINDS: usize = 1;
 
-pub(crate) const COMPLETE: usize = 21;
+pub(crate) const COMPLETE: usize = 5;
 
-pub(crate) const CYCLES: usize = 22;
+pub(crate) const CYCLES: usize = 6;
 
-pub(crate) fn more(a: u64, b: u64) -> u64 {
-    std::num::wrapping_add_u64(a, b)
+// The topics: the answers compared. The counter 8 places on has the differences.
+pub(crate) const PLANS: usize = 7;
+
+pub(crate) const FEWEST: usize = 8;
+
+pub(crate) const VERDICTS: usize = 9;
+
+pub(crate) const RUNS: usize = 10;
+
+pub(crate) const DOCKS: usize = 11;
+
+pub(crate) const STEPS: usize = 12;
+
+pub(crate) const SAVERS: usize = 13;
+
+// The differences of all topics; and of the one that is written, the answer expected, the answer, and the schedule or steps.
+pub(crate) const DIFFERENCES: usize = 22;
+
+// What is of no kind that is counted.
+pub(crate) const NO_KIND: usize = 31;
+
+// Everything that is written, line by line. A byte from 128 on stands for the counter of its number less 128.
+const TEXT: [u8; 942] = *b"lists of up to 8 frames on 3 cards, each with pools 1 to 4: \x80
+correct schedules of up to 5 frames, read and save: \x81
+schedules at fault by a cycle 0: \x82
+by a shared card: \x83
+by an overfull pool: \x84
+lists of steps that hand over everything: \x85
+cycles of savers: \x86
+plans of the three modes, with greedyWriting: compared \x87, differences \x8f
+read and save plans of up to 5 frames, with all schedules: compared \x88, differences \x90
+verdicts on all schedules of up to 5 frames: compared \x89, differences \x91
+runs of all schedules of up to 4 frames, and of these plans: compared \x8a, differences \x92
+docks after all lists of steps, up to 8 for 1 and 2 frames, 7 for 3: compared \x8b, differences \x93
+read plans of 1 to 3 frames, whose T cycles fit, with all lists of steps: compared \x8c, differences \x94
+savers, with greedyWriting, and the refused close: compared \x8d, differences \x95
+no differences
+DIFFERENCES: \x96
+the first difference: expected \x97, got \x98, for \x99 of the ticket below
+";
+
+// Counts n more of something, and answers how many there are then.
+pub(crate) fn add(counts: &mut [u64; 32], i: usize, n: u64) -> u64 {
+    let k = i % 32;
+    let sum = std::num::wrapping_add_u64(counts[k], n);
+    counts[k] = sum;
+    sum
 }
 
-pub(crate) fn wide(x: u16) -> u64 {
-    x as u64
-}
-
-// Counts n more of something.
-pub(crate) fn add(counts: &mut [u64; 32], i: usize, n: u64) {
-    if i < 32 {
-        counts[i] = more(counts[i], n);
-    }
-}
-
-fn count_of(counts: &[u64; 32], i: usize) -> u64 {
-    if i < 32 { counts[i] } else { 0 }
-}
-
-// Two more digits, for the next part of an answer. Parts past 99 count as 99; an answer has at most 9 parts.
-fn append(answer: u64, part: u16) -> u64 {
-    let last = if part < 100 { part } else { 99 };
-    if answer < 100000000000000000 {
-        more(answer * 100, wide(last))
-    } else {
-        answer
-    }
-}
-
-pub(crate) fn pack(parts: [u16; 9]) -> u64 {
-    let mut answer: u64 = 0;
+// Writes the lines of TEXT from one number up to another.
+fn say(counts: &[u64; 32], from: usize, to: usize) {
+    let text = TEXT;
+    let mut line: usize = 0;
     let mut i: usize = 0;
-    while i < 9 {
-        answer = append(answer, parts[i]);
-        i += 1;
-    }
-    answer
-}
-
-// T, or what stands for it, and the cycles of a schedule.
-pub(crate) fn pack_plan(t: u64, cycles: &[u16; 8]) -> u64 {
-    let mut answer = t;
-    let mut i: usize = 0;
-    while i < 8 {
-        answer = append(answer, cycles[i]);
-        i += 1;
-    }
-    answer
-}
-
-fn say(text: &[u8]) {
-    io::write_all(STDOUT_FILENO, text);
-}
-
-fn say_number(n: u64) {
-    io::print_decimal(STDOUT_FILENO, n);
-}
-
-fn say_topic(topic: usize) {
-    match topic {
-        PLANS => say(b"plans of the three modes, with greedyWriting"),
-        FEWEST => say(b"read and save plans of up to 5 frames, with all schedules"),
-        VERDICTS => say(b"verdicts on all schedules of up to 5 frames"),
-        RUNS => say(b"runs of all schedules of up to 4 frames, and of these plans"),
-        DOCKS => say(b"docks after all lists of steps, up to 8 for 1 and 2 frames, 7 for 3"),
-        STEPS => say(b"read plans of 1 to 3 frames, whose T cycles fit, with all lists of steps"),
-        _ => say(b"savers, with greedyWriting, and the refused close"),
-    }
-}
-
-fn say_count(i: usize) {
-    match i {
-        LISTS => say(b"lists of up to 8 frames on 3 cards, each with pools 1 to 4: "),
-        KINDS => say(b"correct schedules of up to 5 frames, read and save: "),
-        18 => say(b"schedules at fault by a cycle 0: "),
-        19 => say(b"by a shared card: "),
-        20 => say(b"by an overfull pool: "),
-        COMPLETE => say(b"lists of steps that hand over everything: "),
-        _ => say(b"cycles of savers: "),
-    }
-}
-
-fn say_list(list: &[u16]) {
-    let n = list.len();
-    let mut i: usize = 0;
-    while i < n {
-        say(b" ");
-        say_number(wide(lists::at(list, i)));
+    while i < 942 {
+        let b = text[i];
+        if (from <= line) & (line < to) {
+            if b < 128 {
+                io::write_all(STDOUT_FILENO, &text[i..i + 1]);
+            } else {
+                io::print_decimal(STDOUT_FILENO, counts[(b % 32) as usize]);
+            }
+        }
+        if b == 10 {
+            line = std::num::wrapping_add_usize(line, 1);
+        }
         i += 1;
     }
 }
 
-fn say_difference(topic: usize, ticket: &[u8], list: &[u16], expected: u64, got: u64) {
-    say_topic(topic);
-    say(b": first difference, for the ticket\n");
-    say(ticket);
-    say(b"and");
-    say_list(list);
-    say(b": expected ");
-    say_number(expected);
-    say(b", got ");
-    say_number(got);
-    say(b"\n");
-}
-
-// One comparison, for a ticket and a list of cycles, steps or cards. The first difference of a topic is written out.
+// One comparison, for a schedule or a list of steps, which is counted with its kind. The first difference of a topic is written out.
 pub(crate) fn compare(
     counts: &mut [u64; 32],
     topic: usize,
-    ticket: &[u8],
-    list: &[u16],
+    kind: usize,
+    item: u64,
     expected: u64,
     got: u64,
 ) {
     add(counts, topic, 1);
+    add(counts, kind, 1);
     if expected == got {
         return;
     }
-    let differences = std::num::wrapping_add_usize(topic, 8);
-    if count_of(counts, differences) == 0 {
-        say_difference(topic, ticket, list, expected, got);
+    add(counts, DIFFERENCES, 1);
+    if add(counts, std::num::wrapping_add_usize(topic, 8), 1) == 1 {
+        counts[23] = expected;
+        counts[24] = got;
+        counts[25] = item;
+        say(counts, topic, std::num::wrapping_add_usize(topic, 1));
+        say(counts, 16, 17);
     }
-    add(counts, differences, 1);
-}
-
-fn say_counts(counts: &[u64; 32]) {
-    let mut i: usize = 16;
-    while i < 23 {
-        say_count(i);
-        say_number(count_of(counts, i));
-        say(b"\n");
-        i += 1;
-    }
-}
-
-// A line for each topic; answers all differences.
-fn say_topics(counts: &[u64; 32]) -> u64 {
-    let mut all: u64 = 0;
-    let mut topic: usize = 0;
-    while topic < 7 {
-        let differences = count_of(counts, topic + 8);
-        say_topic(topic);
-        say(b": compared ");
-        say_number(count_of(counts, topic));
-        say(b", differences ");
-        say_number(differences);
-        say(b"\n");
-        all = more(all, differences);
-        topic += 1;
-    }
-    all
 }
 
 pub(crate) fn summary(counts: &[u64; 32]) {
-    say_counts(counts);
-    let differences = say_topics(counts);
-    if differences == 0 {
-        say(b"no differences\n");
+    say(counts, 0, 14);
+    if counts[DIFFERENCES] == 0 {
+        say(counts, 14, 15);
     } else {
-        say(b"DIFFERENCES: ");
-        say_number(differences);
-        say(b"\n");
+        say(counts, 15, 16);
     }
 }

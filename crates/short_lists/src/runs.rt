@@ -1,46 +1,66 @@
 // A plan's run on the product's dock, against its run on the dock written anew.
 use crate::bench;
-use crate::bench::Bench;
 use crate::lists;
 use crate::report;
+use crate::tickets::Case;
+use plan_run::Answer;
 use plan_run::Outcome;
-use plan_run::Run;
+use std::num::wrapping_add_u64;
 
-// A run: whether it broke off, frames handed over, cycles ended; 1 and the cycles needed where all are handed over; the peak.
-fn run(broken: bool, delivered: u16, ended: u16, complete: u16, needed: u16, peak: u16) -> u64 {
-    let off = if broken { 1 } else { 0 };
-    report::pack([off, delivered, ended, complete, needed, peak, 0, 0, 0])
+// 1 where it is so, and 0 where not.
+pub(crate) fn bit(so: bool) -> u64 {
+    if so { 1 } else { 0 }
 }
 
-fn run_of(r: Run) -> u64 {
-    let outcome = r.outcome;
-    let ended = r.ended;
-    match outcome {
-        Outcome::Complete(needed) => run(r.broken, r.delivered, ended.0, 1, needed.0, r.peak),
-        Outcome::Unfinished => run(r.broken, r.delivered, ended.0, 0, 0, r.peak),
+// 0 for a run that did not complete, and else one more than the cycles that it needed.
+fn outcome_of(o: Outcome) -> u64 {
+    match o {
+        Outcome::Complete(needed) => 1 + (needed.0 as u64),
+        Outcome::Unfinished => 0,
     }
 }
 
-fn answer_of(a: plan_run::Answer) -> u64 {
+// A run: whether it broke off, frames handed over, cycles ended, the outcome, the peak.
+fn answer_of(a: Answer) -> u64 {
     match a {
-        plan_run::Answer::Ran(r) => run_of(r),
-        plan_run::Answer::Refused(number) => number as u64,
+        Answer::Ran(r) => {
+            let ended = r.ended;
+            let outcome = r.outcome;
+            lists::list(
+                bit(r.broken),
+                r.delivered as u64,
+                ended.0 as u64,
+                outcome_of(outcome),
+                r.peak as u64,
+                0,
+            )
+        }
+        Answer::Refused(number) => 1000000 + (number as u64),
     }
 }
 
-fn expected(b: Bench, n: u16) -> u64 {
-    let complete = if b.delivered == n { 1 } else { 0 };
-    run(b.broken, b.delivered, b.ended, complete, b.needed, b.peak)
-}
-
+// The run of a schedule of t cycles. Cycles has its first n as the product takes them.
 pub(crate) fn compare_run(
     counts: &mut [u64; 32],
     ticket: &[u8],
-    cards: &[u16],
-    plan: &[u16],
-    m: u16,
+    c: Case,
+    plan: u64,
+    t: u64,
+    cycles: &[u16],
 ) {
-    let wanted = expected(bench::run(cards, m, plan), lists::size(cards));
-    let ran = plan_run::run_plan(ticket, plan);
-    report::compare(counts, report::RUNS, ticket, plan, wanted, answer_of(ran));
+    let b = bench::run(c, plan, t);
+    let mut outcome: u64 = 0;
+    if b.delivered == c.n {
+        outcome = wrapping_add_u64(1, b.needed);
+    }
+    let wanted = lists::list(bit(b.broken), b.delivered, b.ended, outcome, b.peak, 0);
+    let ran = plan_run::run_plan(ticket, cycles);
+    report::compare(
+        counts,
+        report::RUNS,
+        report::NO_KIND,
+        plan,
+        wanted,
+        answer_of(ran),
+    );
 }

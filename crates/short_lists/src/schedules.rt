@@ -2,112 +2,102 @@
 // lists of up to 4 frames each one's run on the dock.
 use crate::bench;
 use crate::lists;
+use crate::lists::list;
 use crate::report;
 use crate::rules;
 use crate::runs;
+use crate::tickets;
+use crate::tickets::Case;
 use checker::Verdict;
 
 // A verdict: the kind of fault and its position, then T and the peak.
-fn verdict(kind: u16, position: u16, t: u16, peak: u16) -> u64 {
-    report::pack([kind, position, t, peak, 0, 0, 0, 0, 0])
-}
-
 fn verdict_of(v: Verdict) -> u64 {
     match v {
-        Verdict::Valid(t, peak) => verdict(rules::NO_FAULT, 0, t.0, peak),
-        Verdict::NoCycle(p) => verdict(rules::NO_CYCLE, p.0, 0, 0),
-        Verdict::SharedCard(p) => verdict(rules::SHARED_CARD, p.0, 0, 0),
-        Verdict::Overfull(p) => verdict(rules::OVERFULL, p.0, 0, 0),
-        Verdict::Refused(number) => verdict(99, number as u16, 0, 0),
+        Verdict::Valid(t, peak) => list(rules::NO_FAULT, 0, t.0 as u64, peak as u64, 0, 0),
+        Verdict::NoCycle(p) => list(rules::NO_CYCLE, p.0 as u64, 0, 0, 0, 0),
+        Verdict::SharedCard(p) => list(rules::SHARED_CARD, p.0 as u64, 0, 0, 0, 0),
+        Verdict::Overfull(p) => list(rules::OVERFULL, p.0 as u64, 0, 0, 0, 0),
+        Verdict::Refused(number) => list(99, number as u64, 0, 0, 0, 0),
     }
 }
 
-// What document 01 says of a schedule: the kind of its first fault, its number of cycles if it is correct, and the verdict.
-struct Judged {
-    kind: u16,
-    cycles: u16,
-    verdict: u64,
+// The verdict on a correct schedule of t cycles. The peak of a read is that of the plan's run on a dock with a buffer for every frame; that of
+// a save is 0.
+fn valid(c: Case, plan: u64, t: u64) -> u64 {
+    let mut peak: u64 = 0;
+    if c.mode == tickets::READ {
+        let mut roomy = c;
+        roomy.m = c.n;
+        let run = bench::run(roomy, plan, t);
+        peak = run.peak;
+    }
+    list(rules::NO_FAULT, 0, t, peak, 0, 0)
 }
 
-// The peak of a read is that of the plan's run on a dock with a buffer for every frame; that of a save is 0.
-fn peak_of(save: bool, cards: &[u16], plan: &[u16]) -> u16 {
-    if save {
-        return 0;
+// The search at one schedule, the checker's verdict on it, and its run, if it is a read of up to 4 frames. Answers its number of cycles if it
+// is correct, and 65,535 if not.
+fn compare_one(counts: &mut [u64; 32], ticket: &[u8], c: Case, plan: u64) -> u64 {
+    let judged = rules::judge(c, plan);
+    let mut wanted = list(judged.kind, judged.position, 0, 0, 0, 0);
+    let mut answer: u64 = 65535;
+    if judged.kind == rules::NO_FAULT {
+        wanted = valid(c, plan, judged.cycles);
+        answer = judged.cycles;
     }
-    let run = bench::run(cards, lists::size(cards), plan);
-    run.peak
-}
-
-fn own_verdict(save: bool, cards: &[u16], plan: &[u16], m: u16) -> Judged {
-    let fault = rules::first_fault(save, cards, plan, m);
-    if fault.kind != rules::NO_FAULT {
-        return Judged {
-            kind: fault.kind,
-            cycles: 65535,
-            verdict: verdict(fault.kind, fault.position, 0, 0),
-        };
-    }
-    let cycles = rules::length(plan);
-    Judged {
-        kind: rules::NO_FAULT,
-        cycles: cycles,
-        verdict: verdict(rules::NO_FAULT, 0, cycles, peak_of(save, cards, plan)),
-    }
-}
-
-// The search at one schedule, the checker's verdict on it, and its run, if it is a read of up to 4 frames. Answers its number of cycles if
-// it is correct, and 65,535 if not.
-fn compare_one(
-    counts: &mut [u64; 32],
-    ticket: &[u8],
-    save: bool,
-    cards: &[u16],
-    plan: &[u16],
-    m: u16,
-) -> u16 {
-    let judged = own_verdict(save, cards, plan, m);
-    let seen = checker::check(ticket, plan);
+    let array = lists::to_array(plan);
+    let cycles = &array[0..(c.n % 9) as usize];
+    let seen = checker::check(ticket, cycles);
+    let kind = report::KINDS + ((judged.kind % 4) as usize);
     report::compare(
         counts,
         report::VERDICTS,
-        ticket,
+        kind,
         plan,
-        judged.verdict,
+        wanted,
         verdict_of(seen),
     );
-    report::add(
-        counts,
-        std::num::wrapping_add_usize(report::KINDS, judged.kind as usize),
-        1,
-    );
-    if save | (4 < cards.len()) {
-        return judged.cycles;
+    if (c.mode == tickets::READ) & (c.n < 5) {
+        runs::compare_run(counts, ticket, c, plan, judged.cycles, cycles);
     }
-    runs::compare_run(counts, ticket, cards, plan, m);
-    judged.cycles
+    answer
 }
 
-// All schedules of the list with cycles from 0 to its length; no order of the frames is assumed. Answers the fewest cycles of a correct one.
-pub(crate) fn search(
-    counts: &mut [u64; 32],
-    ticket: &[u8],
-    save: bool,
-    cards: &[u16],
-    m: u16,
-) -> u16 {
-    let n = cards.len();
-    let last = lists::size(cards);
-    let total = lists::how_many(n, last);
-    let mut fewest: u16 = 65535;
-    let mut plan = [0u16; 8];
-    let mut turn: u64 = 0;
-    while turn < total {
-        fewest = lists::least(
-            fewest,
-            compare_one(counts, ticket, save, cards, lists::front(&plan, n), m),
-        );
-        lists::next(&mut plan, n, last);
-        turn += 1;
+// All schedules with cycles from 0 to n; no order of the frames is assumed. Answers the fewest cycles of a correct one.
+fn search(counts: &mut [u64; 32], ticket: &[u8], c: Case) -> u64 {
+    let total = lists::how_many(c.n, c.n);
+    let mut fewest: u64 = 65535;
+    let mut number: u64 = 0;
+    while number < total {
+        let found = compare_one(counts, ticket, c, lists::numbered(number, c.n));
+        if found < fewest {
+            fewest = found;
+        }
+        number += 1;
     }
     fewest
+}
+
+// For a read or a save of up to 5 frames: T against the fewest cycles of a correct schedule; the plan is a correct schedule, with T as its
+// largest cycle; and its run.
+pub(crate) fn compare_fewest(counts: &mut [u64; 32], ticket: &[u8], c: Case, plan: u64, t: u64) {
+    if (5 < c.n) | (c.mode == tickets::SAVE_AND_KEEP) {
+        return;
+    }
+    let fewest = search(counts, ticket, c);
+    report::compare(counts, report::FEWEST, report::NO_KIND, 0, fewest, t);
+    let judged = rules::judge(c, plan);
+    let mut length: u64 = 65535;
+    if judged.kind == rules::NO_FAULT {
+        length = judged.cycles;
+    }
+    report::compare(counts, report::FEWEST, report::NO_KIND, 0, length, t);
+    let array = lists::to_array(plan);
+    runs::compare_run(
+        counts,
+        ticket,
+        c,
+        plan,
+        judged.cycles,
+        &array[0..(c.n % 9) as usize],
+    );
 }

@@ -3,213 +3,140 @@
 use crate::bench;
 use crate::bench::Bench;
 use crate::lists;
-use crate::plans;
+use crate::lists::at;
 use crate::report;
+use crate::runs::bit;
+use crate::tickets;
+use crate::tickets::Case;
 use counting::Position;
 use dock::Dock;
 use dock::Step;
+use std::num::wrapping_add_u64;
 
-// The two docks after the same steps, and these steps.
+// The two docks after the same steps, and the list of these steps, the last one first, each as one more than its number.
 struct Both {
     bench: Bench,
     refusal: u8,
     dock: Dock,
     memory: [u8; 8],
-    steps: [u16; 8],
-    taken: usize,
+    steps: u64,
 }
 
-fn step_of(n: u16, number: u16) -> Step {
+fn step_of(n: u64, number: u64) -> Step {
     if number < n {
-        return Step::Read(Position(number));
+        Step::Read(Position((number % 100) as u16))
+    } else {
+        let p = number - n;
+        if p < n {
+            Step::Drop(Position((p % 100) as u16))
+        } else {
+            Step::End
+        }
     }
-    let p = number - n;
-    if p < n {
-        return Step::Drop(Position(p));
-    }
-    Step::End
 }
 
 // One step on both.
-fn drive(here: Both, cards: &[u16], m: u16, number: u16) -> Both {
+fn drive(here: Both, c: Case, number: u64) -> Both {
     let bench = here.bench;
     let dock = here.dock;
     let mut memory = here.memory;
-    let driven = dock::drive(dock, step_of(lists::size(cards), number), &mut memory);
+    let driven = dock::drive(dock, step_of(c.n, number), &mut memory);
     let after = driven.dock;
-    let mut steps = here.steps;
-    let taken = here.taken;
-    lists::set(&mut steps, taken, number);
     Both {
-        bench: bench::step(bench, cards, m, number),
+        bench: bench::step(bench, c, number),
         refusal: driven.refusal,
         dock: after,
         memory: memory,
-        steps: steps,
-        taken: std::num::wrapping_add_usize(taken, 1),
+        steps: (here.steps << 7) | wrapping_add_u64(number, 1),
     }
 }
 
-fn flag(on: bool, value: u16) -> u16 {
-    if on { value } else { 0 }
-}
-
-// Whether broken off, and which cards have read in this cycle.
-fn flags(broken: bool, read: [bool; 3]) -> u16 {
-    let cards = std::num::wrapping_add_u16(flag(read[0], 1), flag(read[1], 2));
-    std::num::wrapping_add_u16(
-        cards,
-        std::num::wrapping_add_u16(flag(read[2], 4), flag(broken, 8)),
-    )
-}
-
-// A frame: its card, and 50 more while it is held.
-fn frame(card: u16, held: bool) -> u16 {
-    if held {
-        std::num::wrapping_add_u16(card, 50)
-    } else {
-        card
+// How many places of the product's dock are not as on the one written anew: the three frames, with 128 more while they are held, and the three
+// cards, whether they have read in this cycle.
+fn unlike(b: Bench, cards: u64, d: Dock, memory: [u8; 8]) -> u64 {
+    let mut places: u64 = 0;
+    let mut i: usize = 0;
+    while i < 3 {
+        let k = i as u64;
+        let frame = at(cards, k) | (at(b.held, k) << 7);
+        if (memory[i] as u64 != frame) | (bit(d.busy[i]) != at(b.read, k)) {
+            places = wrapping_add_u64(places, 1);
+        }
+        i += 1;
     }
+    places
 }
 
-fn frame_of(b: u8) -> u16 {
-    if b < 128 {
-        b as u16
-    } else {
-        frame((b - 128) as u16, true)
-    }
-}
-
-// The product's dock: a refusal, which is never expected; the flags; whether any card has read in this cycle; frames handed over, cycles
-// ended, frames held; the first three frames.
-fn state_of(refusal: u8, d: Dock, memory: [u8; 8]) -> u64 {
-    let off = flags(d.broken, [d.busy[0], d.busy[1], d.busy[2]]);
-    let reading = flag(d.reading, 1);
-    let ended = if d.ended < 99 { d.ended as u16 } else { 99 };
-    let first = frame_of(memory[0]);
-    let second = frame_of(memory[1]);
-    report::pack([
-        refusal as u16,
-        off,
-        reading,
-        d.delivered,
-        ended,
-        d.holding,
-        first,
-        second,
-        frame_of(memory[2]),
-    ])
-}
-
-// The frame at a position on the dock written anew.
-fn frame_at(b: Bench, cards: &[u16], p: u16) -> u16 {
-    frame(lists::at(cards, p as usize), bench::is_held(b, p))
-}
-
-// The same as of the product's dock.
-fn expected(b: Bench, cards: &[u16]) -> u64 {
-    let read = b.read;
-    let off = flags(b.broken, read);
-    let reading = flag(bench::any_read(b), 1);
-    let held = bench::held_of(b, lists::size(cards));
-    let first = frame_at(b, cards, 0);
-    let second = frame_at(b, cards, 1);
-    report::pack([
-        0,
-        off,
-        reading,
-        b.delivered,
-        b.ended,
-        held,
-        first,
-        second,
-        frame_at(b, cards, 2),
-    ])
-}
-
-// Compares the two docks after a list of steps. Answers the cycles needed, and 65,535 where not everything is handed over.
-fn compare_docks(counts: &mut [u64; 32], ticket: &[u8], cards: &[u16], here: Both) -> u16 {
+// Compares the two docks after a list of steps: a refusal and places that are unlike, which are never expected; whether broken off, whether
+// any card has read in this cycle, frames handed over, cycles ended, frames held. Answers the cycles needed, and 65,535 where not everything
+// is handed over.
+fn compare_docks(counts: &mut [u64; 32], c: Case, here: Both) -> u64 {
     let b = here.bench;
     let d = here.dock;
     let memory = here.memory;
-    let steps = here.steps;
-    let got = state_of(here.refusal, d, memory);
-    report::compare(
-        counts,
-        report::DOCKS,
-        ticket,
-        lists::front(&steps, here.taken),
-        expected(b, cards),
-        got,
+    let wrong = wrapping_add_u64(here.refusal as u64, unlike(b, c.cards, d, memory));
+    let expected = lists::list(
+        0,
+        bit(b.broken),
+        bit(b.reading),
+        b.delivered,
+        b.ended,
+        bench::count(b.held),
     );
-    if b.delivered < lists::size(cards) {
-        return 65535;
+    let got = lists::list(
+        wrong,
+        bit(d.broken),
+        bit(d.reading),
+        d.delivered as u64,
+        d.ended as u64,
+        d.holding as u64,
+    );
+    let mut kind = report::NO_KIND;
+    let mut needed: u64 = 65535;
+    if c.n <= b.delivered {
+        kind = report::COMPLETE;
+        needed = b.needed;
     }
-    report::add(counts, report::COMPLETE, 1);
-    b.needed
+    report::compare(counts, report::DOCKS, kind, here.steps, expected, got);
+    needed
 }
 
-// How many steps there are to choose from: a read and a drop of each frame, and the end of the cycle.
-fn choices_of(cards: &[u16]) -> u16 {
-    let n = lists::size(cards);
-    std::num::wrapping_add_u16(std::num::wrapping_add_u16(n, n), 1)
-}
-
-// All lists of steps that go on from here by up to `left` steps. Answers the fewest cycles needed by one of them.
-fn explore(
-    left: usize,
-    counts: &mut [u64; 32],
-    ticket: &[u8],
-    cards: &[u16],
-    m: u16,
-    here: Both,
-) -> u16 {
-    let mut fewest = compare_docks(counts, ticket, cards, here);
+// All lists of steps that go on from here by up to `left` steps: a read and a drop of each frame, and the end of the cycle. Answers the
+// fewest cycles needed by one of them.
+fn explore(left: u64, counts: &mut [u64; 32], c: Case, choices: u64, here: Both) -> u64 {
+    let mut fewest = compare_docks(counts, c, here);
     if left == 0 {
         return fewest;
     }
-    let choices = choices_of(cards);
-    let mut number: u16 = 0;
+    let mut number: u64 = 0;
     while number < choices {
-        let there = drive(here, cards, m, number);
-        fewest = lists::least(fewest, explore(left - 1, counts, ticket, cards, m, there));
+        let there = drive(here, c, number);
+        let found = explore(left - 1, counts, c, choices, there);
+        if found < fewest {
+            fewest = found;
+        }
         number += 1;
     }
     fewest
 }
 
-// The longest lists of steps, for a list of n frames. A read of each and the ends of up to n cycles fit, and no T is above n: so T is reached.
-fn longest(n: usize) -> usize {
-    if n < 3 { 8 } else { 7 }
-}
-
-// The fewest cycles found against the planner's T.
-fn compare_fewest(counts: &mut [u64; 32], ticket: &[u8], cards: &[u16], fewest: u16) {
-    let mut buffer = [0u16; 8];
-    let planned = planner::plan(ticket, &mut buffer);
-    report::compare(
-        counts,
-        report::STEPS,
-        ticket,
-        cards,
-        report::wide(fewest),
-        plans::answer_of(planned),
-    );
-}
-
-// All lists of steps for one ticket, and their fewest cycles.
-pub(crate) fn compare_all(counts: &mut [u64; 32], ticket: &[u8], cards: &[u16], m: u16) {
+// All lists of steps for a read of 1 to 3 frames, and their fewest cycles against the planner's T. With up to 8 steps, 7 for 3 frames, a read
+// of each and the ends of up to n cycles fit, and no T is above n: so T is reached.
+pub(crate) fn compare_all(counts: &mut [u64; 32], ticket: &[u8], c: Case, t: u64) {
+    if (c.mode != tickets::READ) | (c.n == 0) | (3 < c.n) {
+        return;
+    }
     let mut memory = [0u8; 8];
     let started = dock::start(ticket, &mut memory);
-    let empty = started.dock;
+    let dock = started.dock;
     let here = Both {
         bench: bench::empty(),
         refusal: started.refusal,
-        dock: empty,
+        dock: dock,
         memory: memory,
-        steps: [0u16; 8],
-        taken: 0,
+        steps: 0,
     };
-    let fewest = explore(longest(cards.len()), counts, ticket, cards, m, here);
-    compare_fewest(counts, ticket, cards, fewest);
+    let longest = if c.n < 3 { 8 } else { 7 };
+    let fewest = explore(longest, counts, c, 2 * (c.n % 4) + 1, here);
+    report::compare(counts, report::STEPS, report::NO_KIND, 0, fewest, t);
 }

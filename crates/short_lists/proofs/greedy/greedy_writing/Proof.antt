@@ -1,24 +1,25 @@
--- `exhaustive::greedy::greedy_writing` meets its contract.
+-- `short_lists::greedy::greedy_writing` meets its contract.
 -- Assumes nothing.
 use Prim.Native.Nat.{_≤_, _-_}
 use borrow.Author.Needs.{needs}
 use Rattle.short_lists.proofs.greedy.greedy_writing.Statement.{statement}
 use Rattle.short_lists.proofs.greedy.greedy_writing.Tie as tie
+use Rattle.short_lists.proofs.greedy.cycle_if.Reads as cycle-if-reads
 
 abbrev Inv-loop : tie.InvT-loop
-Inv-loop cards m cycles₀ n made₀ i₀ cycles made i = i ≤ n
+Inv-loop c schedule₀ i₀ schedule i = i ≤ 16
 
 abbrev μ-loop : tie.MeasureT-loop
-μ-loop cards m cycles₀ n made₀ i₀ cycles made i = n - i
-
-save-and-keep-requires : tie.Need-save-and-keep-requires Inv-loop μ-loop
-save-and-keep-requires c κs = search needs
+μ-loop c schedule₀ i₀ schedule i = 16 - i
 
 loop-holds : tie.Need-loop-holds Inv-loop μ-loop
 loop-holds c = search needs
 
 cycle-if-requires : tie.Need-cycle-if-requires Inv-loop μ-loop
 cycle-if-requires c κs = search needs
+
+cycle-if-requires-2 : tie.Need-cycle-if-requires-2 Inv-loop μ-loop
+cycle-if-requires-2 c κs = search needs
 
 add-i : tie.Need-add-i Inv-loop μ-loop
 add-i c = search needs
@@ -38,9 +39,9 @@ greedy-writing-spec =
     (tie.spec
     Inv-loop
     μ-loop
-    save-and-keep-requires
     loop-holds
     cycle-if-requires
+    cycle-if-requires-2
     add-i
     loop-less
     loop-again

@@ -1,33 +1,39 @@
--- `exhaustive::greedy::reversed` meets its contract.
+-- `short_lists::greedy::reversed` meets its contract.
 -- Assumes nothing.
 use Prim.Native.Nat.{_≤_, _-_}
 use borrow.Author.Needs.{needs}
 use Rattle.short_lists.proofs.greedy.reversed.Statement.{statement}
 use Rattle.short_lists.proofs.greedy.reversed.Tie as tie
+use Rattle.short_lists.proofs.lists.at.Reads as at-reads
+use Rattle.short_lists.proofs.lists.with.Reads as with-reads
+use Rattle.std.proofs.num.wrapping_sub_u64.Reads as wrapping-sub-u64-reads
 
 abbrev Inv-loop : tie.InvT-loop
-Inv-loop list n back₀ i₀ back i = i ≤ n
+Inv-loop list n from back₀ i₀ back i = i ≤ n
 
 abbrev μ-loop : tie.MeasureT-loop
-μ-loop list n back₀ i₀ back i = n - i
+μ-loop list n from back₀ i₀ back i = n - i
 
 loop-holds : tie.Need-loop-holds Inv-loop μ-loop
 loop-holds c = search needs
 
+add-i : tie.Need-add-i Inv-loop μ-loop
+add-i c = search needs
+
+sub-with : tie.Need-sub-with Inv-loop μ-loop
+sub-with c = search needs
+
 sub-at : tie.Need-sub-at Inv-loop μ-loop
 sub-at c = search needs
-
-sub-at-2 : tie.Need-sub-at-2 Inv-loop μ-loop
-sub-at-2 c = search needs
 
 at-requires : tie.Need-at-requires Inv-loop μ-loop
 at-requires c κs = search needs
 
-set-requires : tie.Need-set-requires Inv-loop μ-loop
-set-requires c κs = search needs
+wrapping-sub-u64-requires : tie.Need-wrapping-sub-u64-requires Inv-loop μ-loop
+wrapping-sub-u64-requires c κs = search needs
 
-add-i : tie.Need-add-i Inv-loop μ-loop
-add-i c = search needs
+with-requires : tie.Need-with-requires Inv-loop μ-loop
+with-requires c κs = search needs
 
 loop-less : tie.Need-loop-less Inv-loop μ-loop
 loop-less c = search needs
@@ -45,11 +51,12 @@ reversed-spec =
     Inv-loop
     μ-loop
     loop-holds
-    sub-at
-    sub-at-2
-    at-requires
-    set-requires
     add-i
+    sub-with
+    sub-at
+    at-requires
+    wrapping-sub-u64-requires
+    with-requires
     loop-less
     loop-again
     returns)

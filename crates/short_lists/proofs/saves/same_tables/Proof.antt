@@ -1,4 +1,4 @@
--- `exhaustive::saves::same_tables` meets its contract.
+-- `short_lists::saves::same_tables` meets its contract.
 -- Assumes nothing.
 use Prim.Native.Nat.{_≤_, _-_}
 use borrow.Author.Needs.{needs}

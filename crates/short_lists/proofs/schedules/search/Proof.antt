@@ -1,18 +1,18 @@
--- `exhaustive::schedules::search` meets its contract.
+-- `short_lists::schedules::search` meets its contract.
 -- Assumes nothing.
 use Prim.Native.Nat.{_≤_, _-_}
 use borrow.Author.Needs.{needs}
 use Rattle.short_lists.proofs.schedules.search.Statement.{statement}
 use Rattle.short_lists.proofs.schedules.search.Tie as tie
+use Rattle.short_lists.proofs.lists.how_many.Reads as how-many-reads
+use Rattle.short_lists.proofs.lists.numbered.Reads as numbered-reads
+use Rattle.short_lists.proofs.schedules.compare_one.Reads as compare-one-reads
 
 abbrev Inv-loop : tie.InvT-loop
-Inv-loop counts₀ ticket save cards m n last total fewest₀ plan₀ turn₀ counts fewest plan turn = turn ≤ total
+Inv-loop counts₀ ticket c total fewest₀ number₀ counts fewest number = number ≤ total
 
 abbrev μ-loop : tie.MeasureT-loop
-μ-loop counts₀ ticket save cards m n last total fewest₀ plan₀ turn₀ counts fewest plan turn = total - turn
-
-size-requires : tie.Need-size-requires Inv-loop μ-loop
-size-requires c κs = search needs
+μ-loop counts₀ ticket c total fewest₀ number₀ counts fewest number = total - number
 
 how-many-requires : tie.Need-how-many-requires Inv-loop μ-loop
 how-many-requires c κs = search needs
@@ -20,20 +20,14 @@ how-many-requires c κs = search needs
 loop-holds : tie.Need-loop-holds Inv-loop μ-loop
 loop-holds c = search needs
 
-front-requires : tie.Need-front-requires Inv-loop μ-loop
-front-requires c κs = search needs
+numbered-requires : tie.Need-numbered-requires Inv-loop μ-loop
+numbered-requires c κs = search needs
 
 compare-one-requires : tie.Need-compare-one-requires Inv-loop μ-loop
 compare-one-requires c κs = search needs
 
-least-requires : tie.Need-least-requires Inv-loop μ-loop
-least-requires c κs = search needs
-
-next-requires : tie.Need-next-requires Inv-loop μ-loop
-next-requires c κs = search needs
-
-add-turn : tie.Need-add-turn Inv-loop μ-loop
-add-turn c = search needs
+add-number : tie.Need-add-number Inv-loop μ-loop
+add-number c = search needs
 
 loop-less : tie.Need-loop-less Inv-loop μ-loop
 loop-less c = search needs
@@ -50,14 +44,11 @@ search-spec =
     (tie.spec
     Inv-loop
     μ-loop
-    size-requires
     how-many-requires
     loop-holds
-    front-requires
+    numbered-requires
     compare-one-requires
-    least-requires
-    next-requires
-    add-turn
+    add-number
     loop-less
     loop-again
     returns)

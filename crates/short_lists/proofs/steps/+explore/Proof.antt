@@ -7,193 +7,123 @@ use borrow.Fn.PlainCycle.{Measures, is, falls, and}
 use Rattle.short_lists.proofs.steps.explore.Reads as explore
 use Rattle.short_lists.proofs.steps.explore.Kinds as explore-kinds
 use Rattle.short_lists.proofs.steps.+explore.Lts-explore as explore-lts
-use Rattle.short_lists.proofs.lists.least.Reads as least-reads
-use Rattle.short_lists.proofs.steps.choices_of.Reads as choices-of-reads
 use Rattle.short_lists.proofs.steps.compare_docks.Reads as compare-docks-reads
 use Rattle.short_lists.proofs.steps.drive.Reads as drive-reads
 use Rattle.short_lists.proofs.steps.+explore.{statement}
 use Rattle.short_lists.proofs.steps.+explore.Tie.{close}
 
-abbrev μ-explore : Measures 3 explore-kinds.ps ℕ
+abbrev μ-explore : Measures 1 explore-kinds.ps ℕ
 μ-explore κs a = a .0
 
-abbrev explore-at : ℕ → In 3 explore-kinds.ps
-explore-at t = and 3 explore-kinds.ps (is 3 explore-kinds.ps μ-explore t) explore.Pre
+abbrev explore-at : ℕ → In 1 explore-kinds.ps
+explore-at t = and 1 explore-kinds.ps (is 1 explore-kinds.ps μ-explore t) explore.Pre
 
-abbrev explore-below : ℕ → In 3 explore-kinds.ps
-explore-below t = and 3 explore-kinds.ps (falls 3 explore-kinds.ps _<_ μ-explore t) explore.Pre
+abbrev explore-below : ℕ → In 1 explore-kinds.ps
+explore-below t = and 1 explore-kinds.ps (falls 1 explore-kinds.ps _<_ μ-explore t) explore.Pre
 
 abbrev explore-Inv-loop : explore-lts.InvT-loop
-explore-Inv-loop left counts₀ ticket cards m here fewest₀ choices number₀ counts fewest number = number ≤ choices
+explore-Inv-loop left counts₀ c choices here fewest₀ number₀ counts fewest number = number ≤ choices
 
 abbrev explore-μ-loop : explore-lts.MeasureT-loop
-explore-μ-loop left counts₀ ticket cards m here fewest₀ choices number₀ counts fewest number = choices - number
+explore-μ-loop left counts₀ c choices here fewest₀ number₀ counts fewest number = choices - number
 
 explore-compare-docks-requires : (t : ℕ) → explore-lts.Need-compare-docks-requires (
   compare-docks-reads.Asked,
   compare-docks-reads.Learnt,
-  choices-of-reads.Asked,
-  choices-of-reads.Learnt,
   drive-reads.Asked,
   drive-reads.Learnt,
   explore-below t,
   explore.Post,
-  least-reads.Asked,
-  least-reads.Learnt,
 ) (explore-at t) explore.Post explore-Inv-loop explore-μ-loop
 explore-compare-docks-requires t c κs = search needs
 
 explore-returns : (t : ℕ) → explore-lts.Need-returns (
   compare-docks-reads.Asked,
   compare-docks-reads.Learnt,
-  choices-of-reads.Asked,
-  choices-of-reads.Learnt,
   drive-reads.Asked,
   drive-reads.Learnt,
   explore-below t,
   explore.Post,
-  least-reads.Asked,
-  least-reads.Learnt,
 ) (explore-at t) explore.Post explore-Inv-loop explore-μ-loop
 explore-returns t c = search needs
-
-explore-choices-of-requires : (t : ℕ) → explore-lts.Need-choices-of-requires (
-  compare-docks-reads.Asked,
-  compare-docks-reads.Learnt,
-  choices-of-reads.Asked,
-  choices-of-reads.Learnt,
-  drive-reads.Asked,
-  drive-reads.Learnt,
-  explore-below t,
-  explore.Post,
-  least-reads.Asked,
-  least-reads.Learnt,
-) (explore-at t) explore.Post explore-Inv-loop explore-μ-loop
-explore-choices-of-requires t c κs = search needs
 
 explore-loop-holds : (t : ℕ) → explore-lts.Need-loop-holds (
   compare-docks-reads.Asked,
   compare-docks-reads.Learnt,
-  choices-of-reads.Asked,
-  choices-of-reads.Learnt,
   drive-reads.Asked,
   drive-reads.Learnt,
   explore-below t,
   explore.Post,
-  least-reads.Asked,
-  least-reads.Learnt,
 ) (explore-at t) explore.Post explore-Inv-loop explore-μ-loop
 explore-loop-holds t c = search needs
 
 explore-drive-requires : (t : ℕ) → explore-lts.Need-drive-requires (
   compare-docks-reads.Asked,
   compare-docks-reads.Learnt,
-  choices-of-reads.Asked,
-  choices-of-reads.Learnt,
   drive-reads.Asked,
   drive-reads.Learnt,
   explore-below t,
   explore.Post,
-  least-reads.Asked,
-  least-reads.Learnt,
 ) (explore-at t) explore.Post explore-Inv-loop explore-μ-loop
 explore-drive-requires t c κs = search needs
 
 explore-sub-explore : (t : ℕ) → explore-lts.Need-sub-explore (
   compare-docks-reads.Asked,
   compare-docks-reads.Learnt,
-  choices-of-reads.Asked,
-  choices-of-reads.Learnt,
   drive-reads.Asked,
   drive-reads.Learnt,
   explore-below t,
   explore.Post,
-  least-reads.Asked,
-  least-reads.Learnt,
 ) (explore-at t) explore.Post explore-Inv-loop explore-μ-loop
 explore-sub-explore t c = search needs
 
 explore-explore-requires : (t : ℕ) → explore-lts.Need-explore-requires (
   compare-docks-reads.Asked,
   compare-docks-reads.Learnt,
-  choices-of-reads.Asked,
-  choices-of-reads.Learnt,
   drive-reads.Asked,
   drive-reads.Learnt,
   explore-below t,
   explore.Post,
-  least-reads.Asked,
-  least-reads.Learnt,
 ) (explore-at t) explore.Post explore-Inv-loop explore-μ-loop
 explore-explore-requires t c κs = search needs
-
-explore-least-requires : (t : ℕ) → explore-lts.Need-least-requires (
-  compare-docks-reads.Asked,
-  compare-docks-reads.Learnt,
-  choices-of-reads.Asked,
-  choices-of-reads.Learnt,
-  drive-reads.Asked,
-  drive-reads.Learnt,
-  explore-below t,
-  explore.Post,
-  least-reads.Asked,
-  least-reads.Learnt,
-) (explore-at t) explore.Post explore-Inv-loop explore-μ-loop
-explore-least-requires t c κs = search needs
 
 explore-add-number : (t : ℕ) → explore-lts.Need-add-number (
   compare-docks-reads.Asked,
   compare-docks-reads.Learnt,
-  choices-of-reads.Asked,
-  choices-of-reads.Learnt,
   drive-reads.Asked,
   drive-reads.Learnt,
   explore-below t,
   explore.Post,
-  least-reads.Asked,
-  least-reads.Learnt,
 ) (explore-at t) explore.Post explore-Inv-loop explore-μ-loop
 explore-add-number t c = search needs
 
 explore-loop-less : (t : ℕ) → explore-lts.Need-loop-less (
   compare-docks-reads.Asked,
   compare-docks-reads.Learnt,
-  choices-of-reads.Asked,
-  choices-of-reads.Learnt,
   drive-reads.Asked,
   drive-reads.Learnt,
   explore-below t,
   explore.Post,
-  least-reads.Asked,
-  least-reads.Learnt,
 ) (explore-at t) explore.Post explore-Inv-loop explore-μ-loop
 explore-loop-less t c = search needs
 
 explore-loop-again : (t : ℕ) → explore-lts.Need-loop-again (
   compare-docks-reads.Asked,
   compare-docks-reads.Learnt,
-  choices-of-reads.Asked,
-  choices-of-reads.Learnt,
   drive-reads.Asked,
   drive-reads.Learnt,
   explore-below t,
   explore.Post,
-  least-reads.Asked,
-  least-reads.Learnt,
 ) (explore-at t) explore.Post explore-Inv-loop explore-μ-loop
 explore-loop-again t c = search needs
 
 explore-returns-2 : (t : ℕ) → explore-lts.Need-returns-2 (
   compare-docks-reads.Asked,
   compare-docks-reads.Learnt,
-  choices-of-reads.Asked,
-  choices-of-reads.Learnt,
   drive-reads.Asked,
   drive-reads.Learnt,
   explore-below t,
   explore.Post,
-  least-reads.Asked,
-  least-reads.Learnt,
 ) (explore-at t) explore.Post explore-Inv-loop explore-μ-loop
 explore-returns-2 t c = search needs
 
@@ -201,14 +131,10 @@ pub +explore-spec : {M : Type 1} → statement M
 +explore-spec = close μ-explore λ t. explore-lts.spec (
   compare-docks-reads.Asked,
   compare-docks-reads.Learnt,
-  choices-of-reads.Asked,
-  choices-of-reads.Learnt,
   drive-reads.Asked,
   drive-reads.Learnt,
   explore-below t,
   explore.Post,
-  least-reads.Asked,
-  least-reads.Learnt,
 )
     (explore-at t)
     explore.Post
@@ -216,12 +142,10 @@ pub +explore-spec : {M : Type 1} → statement M
     explore-μ-loop
     (explore-compare-docks-requires t)
     (explore-returns t)
-    (explore-choices-of-requires t)
     (explore-loop-holds t)
     (explore-drive-requires t)
     (explore-sub-explore t)
     (explore-explore-requires t)
-    (explore-least-requires t)
     (explore-add-number t)
     (explore-loop-less t)
     (explore-loop-again t)
