@@ -1,6 +1,7 @@
 // A dock written anew from document 01, "The dock", for lists of up to 8 frames on 3 cards.
 // Steps are numbered: for a list of n frames, 0 to n - 1 read a position, the next n drop one, and every number from 2n on ends the cycle.
 use crate::lists::at;
+use crate::lists::sum;
 use crate::lists::with;
 use crate::tickets::Case;
 use std::num::wrapping_add_u64;
@@ -33,17 +34,6 @@ pub(crate) fn empty() -> Bench {
     }
 }
 
-// How many frames are held.
-pub(crate) fn count(held: u64) -> u64 {
-    let mut sum: u64 = 0;
-    let mut p: u64 = 0;
-    while p < 8 {
-        sum = wrapping_add_u64(sum, at(held, p));
-        p += 1;
-    }
-    sum
-}
-
 fn read_frame(b: Bench, card: u64, p: u64) -> Bench {
     let mut after = b;
     if at(b.read, card) == 1 {
@@ -61,7 +51,7 @@ fn read_frame(b: Bench, card: u64, p: u64) -> Bench {
 // The end of a cycle: while the next of the frames is held, it is handed over.
 fn end_cycle(b: Bench, c: Case) -> Bench {
     let mut after = b;
-    if c.m < count(b.held) {
+    if c.m < sum(b.held) {
         after.broken = true;
         return after;
     }
@@ -79,8 +69,8 @@ fn end_cycle(b: Bench, c: Case) -> Bench {
     if (b.delivered < c.n) & (c.n <= after.delivered) {
         after.needed = after.ended;
     }
-    if b.peak < count(after.held) {
-        after.peak = count(after.held);
+    if b.peak < sum(after.held) {
+        after.peak = sum(after.held);
     }
     after
 }

@@ -13,6 +13,11 @@ pub(crate) fn with(list: u64, i: u64, x: u64) -> u64 {
     (list ^ (((list >> shift) & 127) << shift)) | (put << shift)
 }
 
+// The sum of a list's numbers, where it is below 127: 128 leaves 1 by 127, and so does every power of it.
+pub(crate) fn sum(list: u64) -> u64 {
+    list % 127
+}
+
 // The list of six numbers.
 pub(crate) fn list(a: u64, b: u64, c: u64, d: u64, e: u64, f: u64) -> u64 {
     with(

@@ -13,59 +13,43 @@ mod tickets;
 
 use tickets::Case;
 
-// A planner's answer: T, or a number past every T for a refusal.
-fn answer_of(a: planner::Answer) -> u64 {
-    match a {
+// The planner's answer to a ticket, as greedy.rt writes a schedule: the plan, with the zeros that were lent behind it, and T, or 127 for a
+// refusal.
+fn planned(ticket: &[u8]) -> u64 {
+    let mut buffer = [0u16; 8];
+    let answer = planner::plan(ticket, &mut buffer);
+    let t = match answer {
         planner::Answer::Planned(t) => t.0 as u64,
-        planner::Answer::Refused(number) => 1000000 + (number as u64),
-    }
+        planner::Answer::Refused(_) => 127,
+    };
+    lists::with(lists::from_array(buffer), greedy::MADE, t)
 }
 
-// One ticket: T and the plan, with the zeros that were lent behind it, against greedyWriting; then what else is compared of it. A ticket with
-// differences is written out after them.
+// One ticket: its plan against greedyWriting; then what else is compared of it. A ticket with differences is written out after them.
 fn one_ticket(counts: &mut [u64; 32], c: Case) {
     let before = report::add(counts, report::DIFFERENCES, 0);
     let text = tickets::text_of(c);
     let ticket = &text[0..15 + 3 * ((c.n % 9) as usize)];
-    let mut buffer = [0u16; 8];
-    let planned = planner::plan(ticket, &mut buffer);
-    let t = answer_of(planned);
-    let plan = lists::from_array(buffer);
+    let plan = planned(ticket);
     report::compare(
         counts,
         report::PLANS,
         report::NO_KIND,
         0,
         greedy::schedule(c),
-        lists::with(plan, greedy::MADE, t),
+        plan,
     );
     if c.mode == tickets::SAVE {
         saves::compare_saver(counts, c);
     }
-    steps::compare_all(counts, ticket, c, t);
-    schedules::compare_fewest(counts, ticket, c, plan, t);
+    steps::compare_all(counts, ticket, c, plan);
+    schedules::compare_fewest(counts, ticket, c, plan);
     if report::add(counts, report::DIFFERENCES, 0) != before {
         io::write_all(libc::STDOUT_FILENO, ticket);
     }
 }
 
-// One list with pools 1 to 4 in the three modes.
-fn one_list(counts: &mut [u64; 32], n: u64, cards: u64) {
-    report::add(counts, report::LISTS, 1);
-    let mut turn: u64 = 0;
-    while turn < 12 {
-        let c = Case {
-            mode: turn % 3,
-            m: turn / 3 + 1,
-            n: n,
-            cards: cards,
-        };
-        one_ticket(counts, c);
-        turn += 1;
-    }
-}
-
-// All lists of 0 to 8 frames.
+// All lists of 0 to 8 frames, each with pools 1 to 4 in the three modes.
 fn main() {
     let mut counts = [0u64; 32];
     let mut n: u64 = 0;
@@ -73,7 +57,18 @@ fn main() {
         let total = lists::how_many(n, 2);
         let mut number: u64 = 0;
         while number < total {
-            one_list(&mut counts, n, lists::numbered(number, 2));
+            report::add(&mut counts, report::LISTS, 1);
+            let mut turn: u64 = 0;
+            while turn < 12 {
+                let c = Case {
+                    mode: turn % 3,
+                    m: turn / 3 + 1,
+                    n: n,
+                    cards: lists::numbered(number, 2),
+                };
+                one_ticket(&mut counts, c);
+                turn += 1;
+            }
             number += 1;
         }
         n += 1;

@@ -2,7 +2,7 @@
 // An answer that is compared is one number: a list, or a number of cycles.
 use libc::STDOUT_FILENO;
 
-// Counters. Each of the first 14 has the line of its own number in TEXT.
+// Counters. Each of the first 14 has the line of its own number in the text.
 pub(crate) const LISTS: usize = 0;
 
 // Of the four kinds of schedules: correct, cycle 0, shared card, overfull.
@@ -34,7 +34,8 @@ pub(crate) const DIFFERENCES: usize = 22;
 pub(crate) const NO_KIND: usize = 31;
 
 // Everything that is written, line by line. A byte from 128 on stands for the counter of its number less 128.
-const TEXT: [u8; 942] = *b"lists of up to 8 frames on 3 cards, each with pools 1 to 4: \x80
+fn text() -> [u8; 942] {
+    *b"lists of up to 8 frames on 3 cards, each with pools 1 to 4: \x80
 correct schedules of up to 5 frames, read and save: \x81
 schedules at fault by a cycle 0: \x82
 by a shared card: \x83
@@ -51,7 +52,8 @@ savers, with greedyWriting, and the refused close: compared \x8d, differences \x
 no differences
 DIFFERENCES: \x96
 the first difference: expected \x97, got \x98, for \x99 of the ticket below
-";
+"
+}
 
 // Counts n more of something, and answers how many there are then.
 pub(crate) fn add(counts: &mut [u64; 32], i: usize, n: u64) -> u64 {
@@ -61,9 +63,9 @@ pub(crate) fn add(counts: &mut [u64; 32], i: usize, n: u64) -> u64 {
     sum
 }
 
-// Writes the lines of TEXT from one number up to another.
+// Writes the lines of the text from one number up to another.
 fn say(counts: &[u64; 32], from: usize, to: usize) {
-    let text = TEXT;
+    let text = text();
     let mut line: usize = 0;
     let mut i: usize = 0;
     while i < 942 {

@@ -39,22 +39,16 @@ fn answer_of(a: Answer) -> u64 {
     }
 }
 
-// The run of a schedule of t cycles. Cycles has its first n as the product takes them.
-pub(crate) fn compare_run(
-    counts: &mut [u64; 32],
-    ticket: &[u8],
-    c: Case,
-    plan: u64,
-    t: u64,
-    cycles: &[u16],
-) {
+// The run of a schedule of t cycles.
+pub(crate) fn compare_run(counts: &mut [u64; 32], ticket: &[u8], c: Case, plan: u64, t: u64) {
     let b = bench::run(c, plan, t);
     let mut outcome: u64 = 0;
     if b.delivered == c.n {
         outcome = wrapping_add_u64(1, b.needed);
     }
     let wanted = lists::list(bit(b.broken), b.delivered, b.ended, outcome, b.peak, 0);
-    let ran = plan_run::run_plan(ticket, cycles);
+    let cycles = lists::to_array(plan);
+    let ran = plan_run::run_plan(ticket, &cycles[0..(c.n % 9) as usize]);
     report::compare(
         counts,
         report::RUNS,

@@ -77,9 +77,16 @@ fn compare_refused(counts: &mut [u64; 32], c: Case, s: Saver)
     );
 }
 
-// One list with one pool: its frames saved, and closing cycles until one is refused, at most 12; the cycles made and noted against
-// greedyWriting.
-pub(crate) fn compare_saver(counts: &mut [u64; 32], c: Case) {
+// A saver, and the cycles that were noted.
+struct Saved {
+    saver: Saver,
+    cycles: u64,
+}
+
+// One list with one pool: its frames saved, and closing cycles until one is refused, at most 12.
+fn save_list(c: Case) -> Saved
+    ensures { λ r. ⌜ Given (r .saver) ⌝ }
+{
     let new = Saver::new(3, (c.m % 100) as u16);
     let mut saver = new.saver;
     let mut cycles: u64 = 0;
@@ -101,6 +108,16 @@ pub(crate) fn compare_saver(counts: &mut [u64; 32], c: Case) {
             saver = a.saver;
         }
     }
+    Saved {
+        saver: saver,
+        cycles: cycles,
+    }
+}
+
+// The cycles made and noted against greedyWriting.
+pub(crate) fn compare_saver(counts: &mut [u64; 32], c: Case) {
+    let s = save_list(c);
+    let saver = s.saver;
     let made = saver.made.0 as u64;
     report::compare(
         counts,
@@ -108,7 +125,7 @@ pub(crate) fn compare_saver(counts: &mut [u64; 32], c: Case) {
         report::NO_KIND,
         0,
         greedy::greedy_writing(c),
-        with(cycles, greedy::MADE, made),
+        with(s.cycles, greedy::MADE, made),
     );
     compare_refused(counts, c, saver);
     report::add(counts, report::CYCLES, made);

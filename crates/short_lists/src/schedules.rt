@@ -1,6 +1,7 @@
 // The search through all schedules of a list: which are correct, with how few cycles; and on the way the checker's verdict on each, and for
 // lists of up to 4 frames each one's run on the dock.
 use crate::bench;
+use crate::greedy;
 use crate::lists;
 use crate::lists::list;
 use crate::report;
@@ -19,6 +20,12 @@ fn verdict_of(v: Verdict) -> u64 {
         Verdict::Overfull(p) => list(rules::OVERFULL, p.0 as u64, 0, 0, 0, 0),
         Verdict::Refused(number) => list(99, number as u64, 0, 0, 0, 0),
     }
+}
+
+fn checked(ticket: &[u8], n: u64, plan: u64) -> u64 {
+    let cycles = lists::to_array(plan);
+    let seen = checker::check(ticket, &cycles[0..(n % 9) as usize]);
+    verdict_of(seen)
 }
 
 // The verdict on a correct schedule of t cycles. The peak of a read is that of the plan's run on a dock with a buffer for every frame; that of
@@ -44,20 +51,11 @@ fn compare_one(counts: &mut [u64; 32], ticket: &[u8], c: Case, plan: u64) -> u64
         wanted = valid(c, plan, judged.cycles);
         answer = judged.cycles;
     }
-    let array = lists::to_array(plan);
-    let cycles = &array[0..(c.n % 9) as usize];
-    let seen = checker::check(ticket, cycles);
+    let seen = checked(ticket, c.n, plan);
     let kind = report::KINDS + ((judged.kind % 4) as usize);
-    report::compare(
-        counts,
-        report::VERDICTS,
-        kind,
-        plan,
-        wanted,
-        verdict_of(seen),
-    );
+    report::compare(counts, report::VERDICTS, kind, plan, wanted, seen);
     if (c.mode == tickets::READ) & (c.n < 5) {
-        runs::compare_run(counts, ticket, c, plan, judged.cycles, cycles);
+        runs::compare_run(counts, ticket, c, plan, judged.cycles);
     }
     answer
 }
@@ -79,10 +77,11 @@ fn search(counts: &mut [u64; 32], ticket: &[u8], c: Case) -> u64 {
 
 // For a read or a save of up to 5 frames: T against the fewest cycles of a correct schedule; the plan is a correct schedule, with T as its
 // largest cycle; and its run.
-pub(crate) fn compare_fewest(counts: &mut [u64; 32], ticket: &[u8], c: Case, plan: u64, t: u64) {
+pub(crate) fn compare_fewest(counts: &mut [u64; 32], ticket: &[u8], c: Case, plan: u64) {
     if (5 < c.n) | (c.mode == tickets::SAVE_AND_KEEP) {
         return;
     }
+    let t = lists::at(plan, greedy::MADE);
     let fewest = search(counts, ticket, c);
     report::compare(counts, report::FEWEST, report::NO_KIND, 0, fewest, t);
     let judged = rules::judge(c, plan);
@@ -91,13 +90,5 @@ pub(crate) fn compare_fewest(counts: &mut [u64; 32], ticket: &[u8], c: Case, pla
         length = judged.cycles;
     }
     report::compare(counts, report::FEWEST, report::NO_KIND, 0, length, t);
-    let array = lists::to_array(plan);
-    runs::compare_run(
-        counts,
-        ticket,
-        c,
-        plan,
-        judged.cycles,
-        &array[0..(c.n % 9) as usize],
-    );
+    runs::compare_run(counts, ticket, c, plan, judged.cycles);
 }

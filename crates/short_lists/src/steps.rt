@@ -2,6 +2,7 @@
 // fewest cycles of a list of steps that hands over everything, against the planner's T. Steps are numbered as in bench.rt.
 use crate::bench;
 use crate::bench::Bench;
+use crate::greedy;
 use crate::lists;
 use crate::lists::at;
 use crate::report;
@@ -13,15 +14,6 @@ use dock::Dock;
 use dock::Step;
 use std::num::wrapping_add_u64;
 
-// The two docks after the same steps, and the list of these steps, the last one first, each as one more than its number.
-struct Both {
-    bench: Bench,
-    refusal: u8,
-    dock: Dock,
-    memory: [u8; 8],
-    steps: u64,
-}
-
 fn step_of(n: u64, number: u64) -> Step {
     if number < n {
         Step::Read(Position((number % 100) as u16))
@@ -32,22 +24,6 @@ fn step_of(n: u64, number: u64) -> Step {
         } else {
             Step::End
         }
-    }
-}
-
-// One step on both.
-fn drive(here: Both, c: Case, number: u64) -> Both {
-    let bench = here.bench;
-    let dock = here.dock;
-    let mut memory = here.memory;
-    let driven = dock::drive(dock, step_of(c.n, number), &mut memory);
-    let after = driven.dock;
-    Both {
-        bench: bench::step(bench, c, number),
-        refusal: driven.refusal,
-        dock: after,
-        memory: memory,
-        steps: (here.steps << 7) | wrapping_add_u64(number, 1),
     }
 }
 
@@ -70,18 +46,23 @@ fn unlike(b: Bench, cards: u64, d: Dock, memory: [u8; 8]) -> u64 {
 // Compares the two docks after a list of steps: a refusal and places that are unlike, which are never expected; whether broken off, whether
 // any card has read in this cycle, frames handed over, cycles ended, frames held. Answers the cycles needed, and 65,535 where not everything
 // is handed over.
-fn compare_docks(counts: &mut [u64; 32], c: Case, here: Both) -> u64 {
-    let b = here.bench;
-    let d = here.dock;
-    let memory = here.memory;
-    let wrong = wrapping_add_u64(here.refusal as u64, unlike(b, c.cards, d, memory));
+fn compare_docks(
+    counts: &mut [u64; 32],
+    c: Case,
+    steps: u64,
+    b: Bench,
+    refusal: u8,
+    d: Dock,
+    memory: [u8; 8],
+) -> u64 {
+    let wrong = wrapping_add_u64(refusal as u64, unlike(b, c.cards, d, memory));
     let expected = lists::list(
         0,
         bit(b.broken),
         bit(b.reading),
         b.delivered,
         b.ended,
-        bench::count(b.held),
+        lists::sum(b.held),
     );
     let got = lists::list(
         wrong,
@@ -97,21 +78,44 @@ fn compare_docks(counts: &mut [u64; 32], c: Case, here: Both) -> u64 {
         kind = report::COMPLETE;
         needed = b.needed;
     }
-    report::compare(counts, report::DOCKS, kind, here.steps, expected, got);
+    report::compare(counts, report::DOCKS, kind, steps, expected, got);
     needed
 }
 
-// All lists of steps that go on from here by up to `left` steps: a read and a drop of each frame, and the end of the cycle. Answers the
-// fewest cycles needed by one of them.
-fn explore(left: u64, counts: &mut [u64; 32], c: Case, choices: u64, here: Both) -> u64 {
-    let mut fewest = compare_docks(counts, c, here);
+// All lists of steps that go on from these by up to `left` steps: a read and a drop of each frame, and the end of the cycle. The two docks are
+// as the steps left them; these are a list, the last one first, each as one more than its number. Answers the fewest cycles needed by one of
+// the lists.
+fn explore(
+    left: u64,
+    counts: &mut [u64; 32],
+    c: Case,
+    steps: u64,
+    b: Bench,
+    refusal: u8,
+    d: Dock,
+    memory: [u8; 8],
+) -> u64 {
+    let mut fewest = compare_docks(counts, c, steps, b, refusal, d, memory);
     if left == 0 {
         return fewest;
     }
+    let choices = 2 * (c.n % 4) + 1;
     let mut number: u64 = 0;
     while number < choices {
-        let there = drive(here, c, number);
-        let found = explore(left - 1, counts, c, choices, there);
+        let mut after = memory;
+        let driven = dock::drive(d, step_of(c.n, number), &mut after);
+        let there = driven.dock;
+        let longer = (steps << 7) | wrapping_add_u64(number, 1);
+        let found = explore(
+            left - 1,
+            counts,
+            c,
+            longer,
+            bench::step(b, c, number),
+            driven.refusal,
+            there,
+            after,
+        );
         if found < fewest {
             fewest = found;
         }
@@ -122,21 +126,30 @@ fn explore(left: u64, counts: &mut [u64; 32], c: Case, choices: u64, here: Both)
 
 // All lists of steps for a read of 1 to 3 frames, and their fewest cycles against the planner's T. With up to 8 steps, 7 for 3 frames, a read
 // of each and the ends of up to n cycles fit, and no T is above n: so T is reached.
-pub(crate) fn compare_all(counts: &mut [u64; 32], ticket: &[u8], c: Case, t: u64) {
+pub(crate) fn compare_all(counts: &mut [u64; 32], ticket: &[u8], c: Case, plan: u64) {
     if (c.mode != tickets::READ) | (c.n == 0) | (3 < c.n) {
         return;
     }
     let mut memory = [0u8; 8];
     let started = dock::start(ticket, &mut memory);
-    let dock = started.dock;
-    let here = Both {
-        bench: bench::empty(),
-        refusal: started.refusal,
-        dock: dock,
-        memory: memory,
-        steps: 0,
-    };
+    let empty = started.dock;
     let longest = if c.n < 3 { 8 } else { 7 };
-    let fewest = explore(longest, counts, c, 2 * (c.n % 4) + 1, here);
-    report::compare(counts, report::STEPS, report::NO_KIND, 0, fewest, t);
+    let fewest = explore(
+        longest,
+        counts,
+        c,
+        0,
+        bench::empty(),
+        started.refusal,
+        empty,
+        memory,
+    );
+    report::compare(
+        counts,
+        report::STEPS,
+        report::NO_KIND,
+        0,
+        fewest,
+        lists::at(plan, greedy::MADE),
+    );
 }

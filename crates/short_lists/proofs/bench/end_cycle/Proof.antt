@@ -4,8 +4,8 @@ use Prim.Native.Nat.{_≤_, _-_}
 use borrow.Author.Needs.{needs}
 use Rattle.short_lists.proofs.bench.end_cycle.Statement.{statement}
 use Rattle.short_lists.proofs.bench.end_cycle.Tie as tie
-use Rattle.short_lists.proofs.bench.count.Reads as count-reads
 use Rattle.short_lists.proofs.lists.at.Reads as at-reads
+use Rattle.short_lists.proofs.lists.sum.Reads as sum-reads
 use Rattle.short_lists.proofs.lists.with.Reads as with-reads
 use Rattle.std.proofs.num.wrapping_add_u64.Reads as wrapping-add-u64-reads
 
@@ -15,8 +15,8 @@ Inv-loop b c after₀ p₀ after p = p ≤ 8
 abbrev μ-loop : tie.MeasureT-loop
 μ-loop b c after₀ p₀ after p = 8 - p
 
-count-requires : tie.Need-count-requires Inv-loop μ-loop
-count-requires c κs = search needs
+sum-requires : tie.Need-sum-requires Inv-loop μ-loop
+sum-requires c κs = search needs
 
 returns : tie.Need-returns Inv-loop μ-loop
 returns c = search needs
@@ -45,11 +45,11 @@ loop-again c = search needs
 wrapping-add-u64-requires : tie.Need-wrapping-add-u64-requires Inv-loop μ-loop
 wrapping-add-u64-requires c κs = search needs
 
-count-requires-2 : tie.Need-count-requires-2 Inv-loop μ-loop
-count-requires-2 c κs = search needs
+sum-requires-2 : tie.Need-sum-requires-2 Inv-loop μ-loop
+sum-requires-2 c κs = search needs
 
-count-requires-3 : tie.Need-count-requires-3 Inv-loop μ-loop
-count-requires-3 c κs = search needs
+sum-requires-3 : tie.Need-sum-requires-3 Inv-loop μ-loop
+sum-requires-3 c κs = search needs
 
 returns-2 : tie.Need-returns-2 Inv-loop μ-loop
 returns-2 c = search needs
@@ -63,7 +63,7 @@ end-cycle-spec =
     (tie.spec
     Inv-loop
     μ-loop
-    count-requires
+    sum-requires
     returns
     loop-holds
     at-requires
@@ -73,7 +73,7 @@ end-cycle-spec =
     loop-less
     loop-again
     wrapping-add-u64-requires
-    count-requires-2
-    count-requires-3
+    sum-requires-2
+    sum-requires-3
     returns-2
     returns-3)

@@ -6,6 +6,7 @@ use Rattle.short_lists.proofs.report.say.Statement.{statement}
 use Rattle.short_lists.proofs.report.say.Tie as tie
 use Rattle.io.proofs.print_decimal.Reads as print-decimal-reads
 use Rattle.io.proofs.write_all.Reads as write-all-reads
+use Rattle.short_lists.proofs.report.text.Reads as text-reads
 use Rattle.std.proofs.num.wrapping_add_usize.Reads as wrapping-add-usize-reads
 
 abbrev Inv-loop : tie.InvT-loop
@@ -13,6 +14,9 @@ Inv-loop counts from to text line₀ i₀ line i = i ≤ 942
 
 abbrev μ-loop : tie.MeasureT-loop
 μ-loop counts from to text line₀ i₀ line i = 942 - i
+
+text-requires : tie.Need-text-requires Inv-loop μ-loop
+text-requires c κs = search needs
 
 loop-holds : tie.Need-loop-holds Inv-loop μ-loop
 loop-holds c = search needs
@@ -68,6 +72,7 @@ say-spec =
     (tie.spec
     Inv-loop
     μ-loop
+    text-requires
     loop-holds
     array-read-b
     add-write-all

@@ -1,32 +1,27 @@
--- `short_lists::saves::compare_saver` meets its contract.
+-- `short_lists::saves::save_list` meets its contract.
 -- Assumes nothing.
 use Rattle.saver.specs.Calls.{Given}
 use Prim.Native.Nat.{_≤_, _-_}
 use borrow.Author.Needs.{needs}
-use Rattle.short_lists.proofs.saves.compare_saver.Statement.{statement}
-use Rattle.short_lists.proofs.saves.compare_saver.Tie as tie
+use Rattle.short_lists.proofs.saves.save_list.Statement.{statement}
+use Rattle.short_lists.proofs.saves.save_list.Tie as tie
 use Rattle.saver.proofs.Saver.close.Reads as close-reads
 use Rattle.saver.proofs.Saver.new.Reads as new-reads
 use Rattle.saver.proofs.Saver.save.Reads as save-reads
-use Rattle.short_lists.proofs.greedy.greedy_writing.Reads as greedy-writing-reads
 use Rattle.short_lists.proofs.lists.at.Reads as at-reads
-use Rattle.short_lists.proofs.lists.with.Reads as with-reads
-use Rattle.short_lists.proofs.report.add.Reads as add-reads
-use Rattle.short_lists.proofs.report.compare.Reads as compare-reads
-use Rattle.short_lists.proofs.saves.compare_refused.Reads as compare-refused-reads
 use Rattle.short_lists.proofs.saves.note.Reads as note-reads
 
 abbrev Inv-loop : tie.InvT-loop
-Inv-loop counts c saver₀ cycles₀ i₀ saver cycles i = (i ≤ c .n) × Given saver
+Inv-loop c saver₀ cycles₀ i₀ saver cycles i = (i ≤ c .n) × Given saver
 
 abbrev μ-loop : tie.MeasureT-loop
-μ-loop counts c saver₀ cycles₀ i₀ saver cycles i = c .n - i
+μ-loop c saver₀ cycles₀ i₀ saver cycles i = c .n - i
 
 abbrev Inv-loop2 : tie.InvT-loop2
-Inv-loop2 counts c saver₀ cycles₀ i going₀ left₀ saver cycles going left = Given saver
+Inv-loop2 c saver₀ cycles₀ i going₀ left₀ saver cycles going left = Given saver
 
 abbrev μ-loop2 : tie.MeasureT-loop2
-μ-loop2 counts c saver₀ cycles₀ i going₀ left₀ saver cycles going left = left
+μ-loop2 c saver₀ cycles₀ i going₀ left₀ saver cycles going left = left
 
 cast-new : tie.Need-cast-new Inv-loop μ-loop Inv-loop2 μ-loop2
 cast-new c = search needs
@@ -82,29 +77,11 @@ loop2-less-2 c = search needs
 loop2-again-2 : tie.Need-loop2-again-2 Inv-loop μ-loop Inv-loop2 μ-loop2
 loop2-again-2 c = search needs
 
-cast-made : tie.Need-cast-made Inv-loop μ-loop Inv-loop2 μ-loop2
-cast-made c = search needs
-
-greedy-writing-requires : tie.Need-greedy-writing-requires Inv-loop μ-loop Inv-loop2 μ-loop2
-greedy-writing-requires c κs = search needs
-
-with-requires : tie.Need-with-requires Inv-loop μ-loop Inv-loop2 μ-loop2
-with-requires c κs = search needs
-
-compare-requires : tie.Need-compare-requires Inv-loop μ-loop Inv-loop2 μ-loop2
-compare-requires c κs = search needs
-
-compare-refused-requires : tie.Need-compare-refused-requires Inv-loop μ-loop Inv-loop2 μ-loop2
-compare-refused-requires c κs = search needs
-
-add-requires : tie.Need-add-requires Inv-loop μ-loop Inv-loop2 μ-loop2
-add-requires c κs = search needs
-
 returns : tie.Need-returns Inv-loop μ-loop Inv-loop2 μ-loop2
 returns c = search needs
 
-pub compare-saver-spec : {M : Type 1} → statement M
-compare-saver-spec =
+pub save-list-spec : {M : Type 1} → statement M
+save-list-spec =
     tie.close
     (tie.spec
     Inv-loop
@@ -129,10 +106,4 @@ compare-saver-spec =
     loop2-again
     loop2-less-2
     loop2-again-2
-    cast-made
-    greedy-writing-requires
-    with-requires
-    compare-requires
-    compare-refused-requires
-    add-requires
     returns)
