@@ -55,7 +55,7 @@ pub(crate) struct Judged {
     pub(crate) cycles: u64,
 }
 
-pub(crate) fn judge(c: Case, plan: u64) -> Judged {
+pub(crate) fn own_verdict(c: Case, plan: u64) -> Judged {
     let mut kind = NO_FAULT;
     let mut position: u64 = 0;
     let mut cycles: u64 = 0;

@@ -44,7 +44,7 @@ fn valid(c: Case, plan: u64, t: u64) -> u64 {
 // The search at one schedule, the checker's verdict on it, and its run, if it is a read of up to 4 frames. Answers its number of cycles if it
 // is correct, and 65,535 if not.
 fn compare_one(counts: &mut [u64; 32], ticket: &[u8], c: Case, plan: u64) -> u64 {
-    let judged = rules::judge(c, plan);
+    let judged = rules::own_verdict(c, plan);
     let mut wanted = list(judged.kind, judged.position, 0, 0, 0, 0);
     let mut answer: u64 = 65535;
     if judged.kind == rules::NO_FAULT {
@@ -84,7 +84,7 @@ pub(crate) fn compare_fewest(counts: &mut [u64; 32], ticket: &[u8], c: Case, pla
     let t = lists::at(plan, greedy::MADE);
     let fewest = search(counts, ticket, c);
     report::compare(counts, report::FEWEST, report::NO_KIND, 0, fewest, t);
-    let judged = rules::judge(c, plan);
+    let judged = rules::own_verdict(c, plan);
     let mut length: u64 = 65535;
     if judged.kind == rules::NO_FAULT {
         length = judged.cycles;

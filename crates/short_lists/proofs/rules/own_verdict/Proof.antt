@@ -1,9 +1,9 @@
--- `short_lists::rules::judge` meets its contract.
+-- `short_lists::rules::own_verdict` meets its contract.
 -- Assumes nothing.
 use Prim.Native.Nat.{_≤_, _-_}
 use borrow.Author.Needs.{needs}
-use Rattle.short_lists.proofs.rules.judge.Statement.{statement}
-use Rattle.short_lists.proofs.rules.judge.Tie as tie
+use Rattle.short_lists.proofs.rules.own_verdict.Statement.{statement}
+use Rattle.short_lists.proofs.rules.own_verdict.Tie as tie
 use Rattle.short_lists.proofs.lists.at.Reads as at-reads
 use Rattle.short_lists.proofs.rules.fault_at.Reads as fault-at-reads
 
@@ -37,8 +37,8 @@ loop-again c = search needs
 returns : tie.Need-returns Inv-loop μ-loop
 returns c = search needs
 
-pub judge-spec : {M : Type 1} → statement M
-judge-spec =
+pub own-verdict-spec : {M : Type 1} → statement M
+own-verdict-spec =
     tie.close
     (tie.spec
     Inv-loop
