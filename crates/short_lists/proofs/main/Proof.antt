@@ -4,11 +4,6 @@ use Prim.Native.Nat.{_≤_, _-_}
 use borrow.Author.Needs.{needs}
 use Rattle.short_lists.proofs.main.Statement.{statement}
 use Rattle.short_lists.proofs.main.Tie as tie
-use Rattle.short_lists.proofs.lists.how_many.Reads as how-many-reads
-use Rattle.short_lists.proofs.lists.numbered.Reads as numbered-reads
-use Rattle.short_lists.proofs.one_ticket.Reads as one-ticket-reads
-use Rattle.short_lists.proofs.report.add.Reads as add-reads
-use Rattle.short_lists.proofs.report.summary.Reads as summary-reads
 
 abbrev Inv-loop3 : tie.InvT-loop3
 Inv-loop3 counts₀ n total number turn₀ counts turn = turn ≤ 12

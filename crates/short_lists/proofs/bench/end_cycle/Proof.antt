@@ -4,10 +4,6 @@ use Prim.Native.Nat.{_≤_, _-_}
 use borrow.Author.Needs.{needs}
 use Rattle.short_lists.proofs.bench.end_cycle.Statement.{statement}
 use Rattle.short_lists.proofs.bench.end_cycle.Tie as tie
-use Rattle.short_lists.proofs.lists.at.Reads as at-reads
-use Rattle.short_lists.proofs.lists.sum.Reads as sum-reads
-use Rattle.short_lists.proofs.lists.with.Reads as with-reads
-use Rattle.std.proofs.num.wrapping_add_u64.Reads as wrapping-add-u64-reads
 
 abbrev Inv-loop : tie.InvT-loop
 Inv-loop b c after₀ p₀ after p = p ≤ 8

@@ -4,9 +4,6 @@ use Prim.Native.Nat.{_≤_, _-_}
 use borrow.Author.Needs.{needs}
 use Rattle.short_lists.proofs.bench.run.Statement.{statement}
 use Rattle.short_lists.proofs.bench.run.Tie as tie
-use Rattle.short_lists.proofs.bench.empty.Reads as empty-reads
-use Rattle.short_lists.proofs.bench.step.Reads as step-reads
-use Rattle.short_lists.proofs.lists.at.Reads as at-reads
 
 abbrev Inv-loop2 : tie.InvT-loop2
 Inv-loop2 c plan t b₀ made p₀ b p = p ≤ c .n

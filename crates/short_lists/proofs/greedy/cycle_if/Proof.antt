@@ -4,9 +4,6 @@ use Prim.Native.Nat.{_≤_, _-_}
 use borrow.Author.Needs.{needs}
 use Rattle.short_lists.proofs.greedy.cycle_if.Statement.{statement}
 use Rattle.short_lists.proofs.greedy.cycle_if.Tie as tie
-use Rattle.short_lists.proofs.lists.at.Reads as at-reads
-use Rattle.short_lists.proofs.lists.with.Reads as with-reads
-use Rattle.std.proofs.num.wrapping_add_u64.Reads as wrapping-add-u64-reads
 
 abbrev Inv-loop : tie.InvT-loop
 Inv-loop c schedule entered least made after₀ wrote₀ waiting₀ i₀ after wrote waiting i = i ≤ entered

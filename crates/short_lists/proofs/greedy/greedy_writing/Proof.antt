@@ -4,7 +4,6 @@ use Prim.Native.Nat.{_≤_, _-_}
 use borrow.Author.Needs.{needs}
 use Rattle.short_lists.proofs.greedy.greedy_writing.Statement.{statement}
 use Rattle.short_lists.proofs.greedy.greedy_writing.Tie as tie
-use Rattle.short_lists.proofs.greedy.cycle_if.Reads as cycle-if-reads
 
 abbrev Inv-loop : tie.InvT-loop
 Inv-loop c schedule₀ i₀ schedule i = i ≤ 16

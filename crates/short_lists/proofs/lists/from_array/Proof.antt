@@ -4,7 +4,6 @@ use Prim.Native.Nat.{_≤_, _-_}
 use borrow.Author.Needs.{needs}
 use Rattle.short_lists.proofs.lists.from_array.Statement.{statement}
 use Rattle.short_lists.proofs.lists.from_array.Tie as tie
-use Rattle.short_lists.proofs.lists.with.Reads as with-reads
 
 abbrev Inv-loop : tie.InvT-loop
 Inv-loop array list₀ i₀ list i = i ≤ 8

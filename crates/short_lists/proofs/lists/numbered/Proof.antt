@@ -4,7 +4,6 @@ use Prim.Native.Nat.{_≤_, _-_}
 use borrow.Author.Needs.{needs}
 use Rattle.short_lists.proofs.lists.numbered.Statement.{statement}
 use Rattle.short_lists.proofs.lists.numbered.Tie as tie
-use Rattle.short_lists.proofs.lists.with.Reads as with-reads
 
 abbrev Inv-loop : tie.InvT-loop
 Inv-loop number last choices list₀ rest₀ i₀ list rest i = i ≤ 8

@@ -4,7 +4,6 @@ use Prim.Native.Nat.{_≤_, _-_}
 use borrow.Author.Needs.{needs}
 use Rattle.short_lists.proofs.lists.to_array.Statement.{statement}
 use Rattle.short_lists.proofs.lists.to_array.Tie as tie
-use Rattle.short_lists.proofs.lists.at.Reads as at-reads
 
 abbrev Inv-loop : tie.InvT-loop
 Inv-loop list array₀ i₀ array i = i ≤ 8

@@ -4,9 +4,6 @@ use Prim.Native.Nat.{_≤_, _-_}
 use borrow.Author.Needs.{needs}
 use Rattle.short_lists.proofs.rules.fault_at.Statement.{statement}
 use Rattle.short_lists.proofs.rules.fault_at.Tie as tie
-use Rattle.short_lists.proofs.lists.at.Reads as at-reads
-use Rattle.short_lists.proofs.rules.reaches.Reads as reaches-reads
-use Rattle.std.proofs.num.wrapping_add_u64.Reads as wrapping-add-u64-reads
 
 abbrev Inv-loop : tie.InvT-loop
 Inv-loop c plan i save cycle shared₀ pool₀ j₀ shared pool j = j ≤ c .n

@@ -4,8 +4,6 @@ use Prim.Native.Nat.{_≤_, _-_}
 use borrow.Author.Needs.{needs}
 use Rattle.short_lists.proofs.rules.own_verdict.Statement.{statement}
 use Rattle.short_lists.proofs.rules.own_verdict.Tie as tie
-use Rattle.short_lists.proofs.lists.at.Reads as at-reads
-use Rattle.short_lists.proofs.rules.fault_at.Reads as fault-at-reads
 
 abbrev Inv-loop : tie.InvT-loop
 Inv-loop c plan kind₀ position₀ cycles₀ i₀ kind position cycles i = i ≤ c .n

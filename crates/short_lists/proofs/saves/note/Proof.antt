@@ -4,8 +4,6 @@ use Prim.Native.Nat.{_≤_, _-_}
 use borrow.Author.Needs.{needs}
 use Rattle.short_lists.proofs.saves.note.Statement.{statement}
 use Rattle.short_lists.proofs.saves.note.Tie as tie
-use Rattle.short_lists.proofs.lists.at.Reads as at-reads
-use Rattle.short_lists.proofs.lists.with.Reads as with-reads
 
 abbrev Inv-loop : tie.InvT-loop
 Inv-loop cycles c noted₀ written made card₀ noted card = card ≤ 32

@@ -5,11 +5,6 @@ use Prim.Native.Nat.{_≤_, _-_}
 use borrow.Author.Needs.{needs}
 use Rattle.short_lists.proofs.saves.save_list.Statement.{statement}
 use Rattle.short_lists.proofs.saves.save_list.Tie as tie
-use Rattle.saver.proofs.Saver.close.Reads as close-reads
-use Rattle.saver.proofs.Saver.new.Reads as new-reads
-use Rattle.saver.proofs.Saver.save.Reads as save-reads
-use Rattle.short_lists.proofs.lists.at.Reads as at-reads
-use Rattle.short_lists.proofs.saves.note.Reads as note-reads
 
 abbrev Inv-loop : tie.InvT-loop
 Inv-loop c saver₀ cycles₀ i₀ saver cycles i = (i ≤ c .n) × Given saver

@@ -4,9 +4,6 @@ use Prim.Native.Nat.{_≤_, _-_}
 use borrow.Author.Needs.{needs}
 use Rattle.short_lists.proofs.schedules.search.Statement.{statement}
 use Rattle.short_lists.proofs.schedules.search.Tie as tie
-use Rattle.short_lists.proofs.lists.how_many.Reads as how-many-reads
-use Rattle.short_lists.proofs.lists.numbered.Reads as numbered-reads
-use Rattle.short_lists.proofs.schedules.compare_one.Reads as compare-one-reads
 
 abbrev Inv-loop : tie.InvT-loop
 Inv-loop counts₀ ticket c total fewest₀ number₀ counts fewest number = number ≤ total

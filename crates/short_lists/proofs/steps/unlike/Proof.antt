@@ -4,9 +4,6 @@ use Prim.Native.Nat.{_≤_, _-_}
 use borrow.Author.Needs.{needs}
 use Rattle.short_lists.proofs.steps.unlike.Statement.{statement}
 use Rattle.short_lists.proofs.steps.unlike.Tie as tie
-use Rattle.short_lists.proofs.lists.at.Reads as at-reads
-use Rattle.short_lists.proofs.runs.bit.Reads as bit-reads
-use Rattle.std.proofs.num.wrapping_add_u64.Reads as wrapping-add-u64-reads
 
 abbrev Inv-loop : tie.InvT-loop
 Inv-loop b cards d memory places₀ i₀ places i = i ≤ 3

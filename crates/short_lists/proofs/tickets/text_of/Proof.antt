@@ -4,8 +4,6 @@ use Prim.Native.Nat.{_≤_, _-_}
 use borrow.Author.Needs.{needs}
 use Rattle.short_lists.proofs.tickets.text_of.Statement.{statement}
 use Rattle.short_lists.proofs.tickets.text_of.Tie as tie
-use Rattle.short_lists.proofs.lists.at.Reads as at-reads
-use Rattle.short_lists.proofs.tickets.digit.Reads as digit-reads
 
 abbrev Inv-loop : tie.InvT-loop
 Inv-loop c text₀ i₀ text i = i ≤ 8
