@@ -56,5 +56,6 @@ module _ {cards cycles : List ℕ} {i j : ℕ} (v : Apart cards cycles i j) wher
       sym (lt-ltb 0 (howMany i (same cards cycles i)) (omega (arith, sum-term-le i (λ k. bit (same cards cycles i k)) j l)))
 
 -- no earlier frame of the card has a cycle after `latest`, so none has a later one than that
-pub not-shared-later : (cards cycles : List ℕ) (i latest : ℕ) → NoneAfter cards cycles i latest → latest < cycleOf cycles i → false ≡ shares cards cycles i
+pub not-shared-later : (cards cycles : List ℕ) (i latest : ℕ) → NoneAfter cards cycles i latest
+    → latest < cycleOf cycles i → false ≡ shares cards cycles i
 not-shared-later cards cycles i latest h l = sym (apart-alone oBacklog 0 cards cycles i (λ j k c e. omega (arith, h .each j k c)))

@@ -30,7 +30,8 @@ tabulate-cong zero f g h = refl
 tabulate-cong (suc n) f g h = rw (tabulate-cong n f g (λ i l. h i (omega arith)), h n (omega arith))
 
 pub set-tabulate :
-    (n : ℕ) (f g : ℕ → ℕ) (k : ℕ) → k < n → ((i : ℕ) → i < n → (i ≡ k → ⊥) → f i ≡ g i) → set (tabulate n f) k (g k) ≡ tabulate n g
+    (n : ℕ) (f g : ℕ → ℕ) (k : ℕ) → k < n → ((i : ℕ) → i < n → (i ≡ k → ⊥) → f i ≡ g i)
+    → set (tabulate n f) k (g k) ≡ tabulate n g
 set-tabulate n f g k l h =
     ext-getD 0 (set (tabulate n f) k (g k)) (tabulate n g)
     (length-set (tabulate n f) k (g k) ∙ length-tabulate n f ∙ sym (length-tabulate n g))
@@ -114,3 +115,7 @@ most-next f i = rw (add-one i) (largest-snoc (tabulate i f) (f i))
 
 pub among : (f : ℕ → ℕ) (i j : ℕ) → j < i → f j ≤ largest (tabulate i f)
 among f i j l = omega (arith, le-largest (tabulate i f) j, getD-tabulate i f j 0 l)
+
+-- one more that is not over one of them
+pub most-stays : (f : ℕ → ℕ) (i j : ℕ) → j < i → f i ≤ f j → largest (tabulate i f) ≡ largest (tabulate (i + 1) f)
+most-stays f i j l h = omega (arith, most-next f i, among f i j l)

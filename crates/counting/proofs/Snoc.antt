@@ -44,7 +44,8 @@ pub kept-length : (b : Bool) (x : ℕ) → length (cond b [] (x ∷ [])) ≡ bit
 kept-length true x = refl
 kept-length false x = refl
 
-pub bound-kept : (l : List ℕ) (z : Bool) (x b : ℕ) → ((i : ℕ) → i < length l → getD l i 0 < b) → x < b → (i : ℕ) → i < length (l ++ cond z [] (x ∷ []))
+pub bound-kept : (l : List ℕ) (z : Bool) (x b : ℕ) → ((i : ℕ) → i < length l → getD l i 0 < b)
+    → x < b → (i : ℕ) → i < length (l ++ cond z [] (x ∷ []))
     → getD (l ++ cond z [] (x ∷ [])) i 0 < b
 bound-kept l true x b h g i k = rw (append-nil l) (h i (rw (append-nil l) at k))
 bound-kept l false x b h g i k = bound-snoc l x b h g i k

@@ -35,7 +35,8 @@ module _ {m : ℕ} {cards : List ℕ} {d : ModelDock} {dock : Dock} {memory : Li
   module _ (unbroken : dock .broken ≡ false) (l : i < dock .frames) where
     -- the frame is not held now; h frames are
     dropped : (h : ℕ) (after : List ℕ) → length after ≡ length memory → h + bit (d .held i) ≡ dock .holding → getD after i 0 ≡ cardOf cards i
-        → ((j : ℕ) → (j ≡ i → ⊥) → getD after j 0 ≡ getD memory j 0) → ShowsDock m cards (perform cards (dropFrame i) d) (nowHolding dock h) after
+        → ((j : ℕ) → (j ≡ i → ⊥) → getD after j 0 ≡ getD memory j 0)
+        → ShowsDock m cards (perform cards (dropFrame i) d) (nowHolding dock h) after
     dropped h after e count here others =
         record {
           frames = s .frames;

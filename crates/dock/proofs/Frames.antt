@@ -17,7 +17,8 @@ use Rattle.dock.specs.declared.Dock.{Dock}
 use Rattle.dock.proofs.Counting.{put-count}
 use Rattle.dock.proofs.Marks.{mark-card, mark-held}
 
-module _ {m : ℕ} {cards : List ℕ} {d : ModelDock} {dock : Dock} {memory : List ℕ} (s : ShowsDock m cards d dock memory) (i : ℕ) (l : i < dock .frames) where
+module _ {m : ℕ} {cards : List ℕ} {d : ModelDock} {dock : Dock} {memory : List ℕ}
+    (s : ShowsDock m cards d dock memory) (i : ℕ) (l : i < dock .frames) where
   pub in-list : i < length cards
   in-list = omega (arith, s .frames)
 

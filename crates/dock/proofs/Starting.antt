@@ -45,7 +45,8 @@ unfolding startOf memoryStarted
 ticket-refused k r z before = (z, refl)
 
 -- the cards at the front of memory, none held, show the empty dock of the model
-pub empty-shows : (h : Header) (cards rest : List ℕ) → Fits h cards → ShowsDock (h .pool) cards emptyDock (newDock (h .pool) (length cards)) (cards ++ rest)
+pub empty-shows : (h : Header) (cards rest : List ℕ) → Fits h cards
+    → ShowsDock (h .pool) cards emptyDock (newDock (h .pool) (length cards)) (cards ++ rest)
 empty-shows h cards rest f =
     record {
       frames = refl;

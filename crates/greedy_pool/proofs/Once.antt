@@ -84,7 +84,8 @@ module _ (cards : List ℕ) (p : Plan) (v : Told cards p) (i : ℕ) (l : i < len
         timesIn-snoc i (cyclesUpTo cards (p .cycles) t) (entriesOf cards (p .cycles) (suc t))
         ∙ rw (times-log t, times-entries (suc t) (omega arith))
 
-pub once : (cards : List ℕ) (p : Plan) → Told cards p → ((i : ℕ) → i < length (p .cycles) → cardOf cards i < maxCards) → length (p .cycles) ≤ none
+pub once : (cards : List ℕ) (p : Plan) → Told cards p
+    → ((i : ℕ) → i < length (p .cycles) → cardOf cards i < maxCards) → length (p .cycles) ≤ none
     → (i : ℕ) → i < length (p .cycles) → timesIn i (logOf cards p) + times i (poolOf (p .cycles)) ≡ 1
 once cards p v low fit i l =
     rw (times-log cards p v i l (omega arith) (low i l) (p .T), times-pool (p .cycles) i (length (p .cycles)) l)

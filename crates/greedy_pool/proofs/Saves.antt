@@ -15,7 +15,8 @@ use Rattle.greedy_pool.proofs.Logs.{entries-enter, log-enter, log-cycle
 -- From plan p to plan q no cycle is made and the log stays, or one is made and the log has its entries at the end.
 abbrev pub Logged : List ℕ → Plan → Plan → Type 0
 Logged cards p q =
-    ((q .T ≡ p .T) × (logOf cards q ≡ logOf cards p)) ⊎ ((q .T ≡ suc (p .T)) × (logOf cards q ≡ logOf cards p ++ (entriesOf cards (q .cycles) (q .T) ∷ [])))
+    ((q .T ≡ p .T) × (logOf cards q ≡ logOf cards p))
+    ⊎ ((q .T ≡ suc (p .T)) × (logOf cards q ≡ logOf cards p ++ (entriesOf cards (q .cycles) (q .T) ∷ [])))
 
 pub cycle-logged : (cards : List ℕ) (p : Plan) → Logged cards p (oneCycle cards p)
 cycle-logged cards p = inr (refl, log-cycle cards p)

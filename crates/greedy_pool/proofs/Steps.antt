@@ -62,7 +62,8 @@ module _ (cards : List ℕ) (p : Plan) (c v : List ℕ) where
       rw (waiting-same (p .cycles) n e, waiting-same (oneCycle cards p .cycles) n gone)
       (left-among f n (omega arith) (rw (waiting-same (p .cycles) n e) at s) (rw (waiting-same (p .cycles) n e) at t)))
 
-  writes-among : (k n : ℕ) → n ≤ L → ((i : ℕ) → i < L → cycleOf (p .cycles) i ≤ p .T) → Tabled c (cardOf cards) (W n) → Tabled v (λ i. i) (W n)
+  writes-among : (k n : ℕ) → n ≤ L → ((i : ℕ) → i < L → cycleOf (p .cycles) i ≤ p .T)
+      → Tabled c (cardOf cards) (W n) → Tabled v (λ i. i) (W n)
       → writes k c v (length (W n)) ≡ frameAmong cards (oneCycle cards p .cycles) (suc (p .T)) k n
   writes-among k zero h made s t = refl
   writes-among k (suc n) h made s t =
@@ -88,7 +89,8 @@ module _ (cards : List ℕ) (p : Plan) (c v : List ℕ) where
       (writes-among k n (omega arith) made (rw (waiting-same (p .cycles) n e) at s) (rw (waiting-same (p .cycles) n e) at t)))
 
 -- c has the cards of the pool's frames and v a value of each: the values that the cycle leaves
-pub pool-cycle : (cards : List ℕ) (p : Plan) (c v : List ℕ) (f : ℕ → ℕ) → Tabled c (cardOf cards) (poolOf (p .cycles)) → Tabled v f (poolOf (p .cycles))
+pub pool-cycle : (cards : List ℕ) (p : Plan) (c v : List ℕ) (f : ℕ → ℕ)
+    → Tabled c (cardOf cards) (poolOf (p .cycles)) → Tabled v f (poolOf (p .cycles))
     → left c v (length (poolOf (p .cycles))) ≡ map f (poolOf (oneCycle cards p .cycles))
 pool-cycle cards p c v f s t = rw (next-length cards p) (left-among cards p c v f (length (p .cycles)) (omega arith) s t)
 

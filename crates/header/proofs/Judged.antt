@@ -71,7 +71,8 @@ module _ (t : List ℕ) where
 
   -- the numbers that were read are the header's
   pub heading-read :
-      {r : Answer} {e m c p f : ℕ} → isLine t 0 headerDigits ≡ true → e ≡ number t 0 2 → m ≡ number t 2 2 → c ≡ number t 4 2 → p ≡ number t 6 4
+      {r : Answer} {e m c p f : ℕ} → isLine t 0 headerDigits ≡ true
+      → e ≡ number t 0 2 → m ≡ number t 2 2 → c ≡ number t 4 2 → p ≡ number t 6 4
       → f ≡ number t 10 4 → r ≡ withinLimits (record { edition = e; mode = m; cards = c; pool = p; frames = f }) → r ≡ heading t
   unfolding headerOf
   heading-read l e m c p f j = rw (heading-of l, ← e, ← m, ← c, ← p, ← f) j

@@ -98,7 +98,8 @@ module _ {cycles first after : List ℕ} {i : ℕ} (s : Small cycles) (v : Chain
 
 -- frames of other cycles add no reads
 reads-same :
-    (cycles : List ℕ) (c a b : ℕ) → a ≤ b → ((j : ℕ) → a ≤ j → j < b → cycleOf cycles j ≡ c → ⊥) → readsOf cycles c b ≡ readsOf cycles c a
+    (cycles : List ℕ) (c a b : ℕ) → a ≤ b → ((j : ℕ) → a ≤ j → j < b → cycleOf cycles j ≡ c → ⊥)
+    → readsOf cycles c b ≡ readsOf cycles c a
 reads-same cycles c a zero l h = let e : a ≡ 0 = omega arith in rw e
 reads-same cycles c a (suc b) l h =
     elim (ℕ-discrete a (suc b)) [
@@ -109,7 +110,8 @@ reads-same cycles c a (suc b) l h =
     ]
 
 reads-over :
-    {cycles : List ℕ} {c a b : ℕ} {p q : Progress} {before memory : List ℕ} → a ≤ b → ((j : ℕ) → a ≤ j → j < b → cycleOf cycles j ≡ c → ⊥)
+    {cycles : List ℕ} {c a b : ℕ} {p q : Progress} {before memory : List ℕ}
+    → a ≤ b → ((j : ℕ) → a ≤ j → j < b → cycleOf cycles j ≡ c → ⊥)
     → ReadsMade cycles c a p before q memory → ReadsMade cycles c b p before q memory
 reads-over {cycles} {c} {a} {b} l h v = record { follows = λ m cards u. rw (reads-same cycles c a b l h) (v .follows m cards u) }
 

@@ -23,7 +23,8 @@ module _ {m : ℕ} {cards : List ℕ} {steps : List Step} {t : ℕ} {p : Progres
     counts : run m cards steps emptyDock .ended < mostCycles
     counts = omega (arith, v .ends)
 
-    pub one-read : {i : ℕ} {r : Progress} {after : List ℕ} → Tracked p (readFrame i) memory r after → Reached m cards (steps ++ (readFrame i ∷ [])) t r after
+    pub one-read : {i : ℕ} {r : Progress} {after : List ℕ} → Tracked p (readFrame i) memory r after
+        → Reached m cards (steps ++ (readFrame i ∷ [])) t r after
     one-read {i} w =
         record {
           tracks = w .follows m cards steps (v .tracks) counts;
@@ -83,7 +84,8 @@ pub reads-of-none :
     {cycles : List ℕ} {c : ℕ} {p : Progress} {memory : List ℕ} {next : ℕ} → 1 ≤ c → Next cycles (c - 1) next → c < next
     → ReadsMade cycles c (length cycles) p memory p memory
 reads-of-none {cycles} {c} f n l =
-    let none : readsOf cycles c (length cycles) ≡ [] = no-reads cycles c (length cycles) (λ i k e. absurd (omega (arith, n .none-between i k (omega arith)))) in
+    let none : readsOf cycles c (length cycles) ≡ []
+    = no-reads cycles c (length cycles) (λ i k e. absurd (omega (arith, n .none-between i k (omega arith)))) in
     record { follows = λ m cards v. rw (none, append-nil) v }
 
 -- what `next` says of the cycle after t
@@ -96,7 +98,8 @@ module _ {cycles : List ℕ} {t : ℕ} {p : Progress} {before : List ℕ} where
   cycles-none = record { follows = λ m cards v. v }
 
   module _ {u : ℕ} {q : Progress} {memory : List ℕ} (v : CyclesMade cycles t u p before q memory) where
-    pub cycles-next : {r : Progress} {after : List ℕ} → CyclesMade cycles (u + 1 - 1) (u + 1) q memory r after → CyclesMade cycles t (u + 1) p before r after
+    pub cycles-next : {r : Progress} {after : List ℕ} → CyclesMade cycles (u + 1 - 1) (u + 1) q memory r after
+        → CyclesMade cycles t (u + 1) p before r after
     cycles-next w =
         let e : u + 1 - 1 ≡ u = omega arith in
         record { follows = λ m cards x. w .follows m cards (rw e (v .follows m cards x)) }

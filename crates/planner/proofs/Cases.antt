@@ -7,7 +7,8 @@ use Rattle.schedule.specs.Cases.{expected, cases}
 use Rattle.text.specs.Text.{digit, digits, number, isLine}
 use Rattle.text.specs.Hex.{digitOf, hex}
 use Rattle.header.specs.Heading.{headerOf, withinLimits, heading}
-use Rattle.ticket.specs.Ticket.{cardAt, lineFault, linesFault, partFault, parse, zeros}
+use Rattle.frame_lines.specs.Lines.{cardAt, lineFault, linesFault, partFault}
+use Rattle.ticket.specs.Ticket.{parse, zeros}
 use Rattle.ticket.specs.Print.{lineTexts, ticketText}
 use Rattle.planner.specs.Plan.{planOf, bufferAfter}
 use Rattle.planner.specs.Cases.{asked}

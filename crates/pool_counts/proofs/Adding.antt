@@ -8,15 +8,19 @@ use native.Mathlib.Omega.{arith}
 use native.Mathlib.Numerals.{add-one}
 use native.Mathlib.Decide.{ℕ-discrete}
 use lib.Dec.{eqb, ltb}
-use lib.ListN.{length, getD, set, length-set}
+use lib.ListN.{length, getD, set, replicate, length-set, length-replicate}
 use lib.Seq.{getD-set-same, getD-set-other}
 use borrow.Author.Tests.{eq-eqb, ne-eqb, le-ltb}
 use Rattle.counting.specs.Count.{bit, howMany}
 use Rattle.schedule.specs.Schedule.{cycleOf}
 use Rattle.counting.proofs.Sums.{sum-cong, sum-add, sum-zero, howMany-le}
 use Rattle.counting.proofs.Bits.{before-or-that, both-after}
+use Rattle.counting.proofs.Lists.{getD-zeros}
 use Rattle.header.specs.Limits.{maxFrames}
 use Rattle.pool_counts.specs.Counts.{cyclesBefore, tableLength, Zeroed, Low, Tallied, Table}
+
+pub zeroed : Zeroed (replicate tableLength 0)
+zeroed = record { long = length-replicate {A = ℕ} tableLength 0; zeros = getD-zeros tableLength }
 
 -- a plan up to `top` is one up to the limit
 pub within-limit : (cycles : List ℕ) (top : ℕ) → Low cycles top → Low cycles maxFrames
@@ -95,7 +99,8 @@ add-first cycles table t =
       done = λ k l. absurd (omega arith);
       rest = λ k h l. t .counts k l;
       so-far =
-          sym (sum-cong (length cycles) (λ j. bit (ltb (suc (cycleOf cycles j)) 0)) (λ j. 0) (λ j l. ap bit (le-ltb (suc (cycleOf cycles j)) 0 (omega arith)))
+          sym (sum-cong (length cycles) (λ j. bit (ltb (suc (cycleOf cycles j)) 0))
+          (λ j. 0) (λ j l. ap bit (le-ltb (suc (cycleOf cycles j)) 0 (omega arith)))
           ∙ sum-zero (length cycles));
     }
 

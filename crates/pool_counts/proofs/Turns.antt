@@ -13,7 +13,7 @@ use Rattle.schedule.specs.Schedule.{cycleOf, oBacklog, iBacklog}
 use Rattle.schedule.specs.Closed.{readBefore}
 use Rattle.header.specs.Limits.{maxFrames}
 use Rattle.counting.proofs.Sums.{sum-cong}
-use Rattle.counting.proofs.Lists.{most-next, among}
+use Rattle.counting.proofs.Lists.{most-next, most-stays, among}
 use Rattle.counting.proofs.Bits.{up-to-the-one-before}
 use Rattle.pool_counts.specs.Counts.{laterUpTo, cyclesBefore, Table, Bounds, mostOf}
 use Rattle.pool_counts.proofs.Most.{backlog-covered, before-covered, save-covered, backlog-ahead, before-ahead, save-behind}
@@ -73,26 +73,14 @@ module _ {cycles : List ℕ} {i ceiling backlog before : ℕ} (v : ReadTurn cycl
           inside = omega arith;
           under = λ j k. elim (ℕ-discrete j i) [ yes e ↦ rw e (omega arith) | no e ↦ v .under j (omega arith) ];
           met = λ k. (r .0, omega (arith, r .1), r .2);
-          backlog-is =
-              omega (
-                arith,
-                v .backlog-is,
-                most-next (iBacklog cycles) i,
-                among (iBacklog cycles) i (r .0) (r .1),
-                backlog-covered cycles i (r .0) (r .1) (omega (arith, r .2)),
-              );
-          before-is =
-              omega (
-                arith,
-                v .before-is,
-                most-next (readBefore cycles) i,
-                among (readBefore cycles) i (r .0) (r .1),
-                before-covered cycles i (r .0) (r .1) (omega (arith, r .2)),
-              );
+          backlog-is = v .backlog-is ∙ most-stays (iBacklog cycles) i (r .0) (r .1) (backlog-covered cycles i (r .0) (r .1) (omega (arith, r .2)));
+          before-is = v .before-is ∙ most-stays (readBefore cycles) i (r .0) (r .1) (before-covered cycles i (r .0) (r .1) (omega (arith, r .2)));
         }
 
-  pub read-most : length cycles ≤ i → (backlog ≡ mostOf iBacklog cycles) × (before ≡ mostOf readBefore cycles)
-  read-most l = let e : i ≡ length cycles = omega (arith, v .inside) in (rw (← e) (v .backlog-is), rw (← e) (v .before-is))
+  pub read-most : length cycles ≤ i → Bounds iBacklog cycles backlog × (before ≡ mostOf readBefore cycles)
+  read-most l =
+      let e : i ≡ length cycles = omega (arith, v .inside) in
+      (record { each = λ j k. omega (arith, v .backlog-is, among (iBacklog cycles) i j (omega arith)) }, rw (← e) (v .before-is))
 
 -- a save, when the frames from i on are done: `floor` is their smallest cycle, over the limit for none
 pub record SaveTurn (cycles : List ℕ) (i floor most : ℕ) : Type 0 where
@@ -172,7 +160,8 @@ counted-first cycles = record { inside = omega arith; so-far = refl }
 
 module _ {cycles : List ℕ} {i most : ℕ} (v : Counted cycles i most) where
   pub counted-next :
-      i < length cycles → 1 ≤ cycleOf cycles i → {b x : ℕ} → x ≡ laterUpTo cycles i (cycleOf cycles i - 1) → b ≡ max most x → Counted cycles (i + 1) b
+      i < length cycles → 1 ≤ cycleOf cycles i → {b x : ℕ}
+      → x ≡ laterUpTo cycles i (cycleOf cycles i - 1) → b ≡ max most x → Counted cycles (i + 1) b
   counted-next l g {b} {x} x-is b-is =
       let e : laterUpTo cycles i (cycleOf cycles i - 1) ≡ readBefore cycles i =
       sum-cong (length cycles) (λ j. bit (ltb i j && leb (cycleOf cycles j) (cycleOf cycles i - 1)))

@@ -8,6 +8,7 @@ use lib.Dec.{eqb, leb, ltb}
 use lib.ListN.{length, getD}
 use Rattle.counting.specs.Count.{howMany, tabulate, largest}
 use Rattle.schedule.specs.Schedule.{cycleOf, oBacklog, iBacklog}
+use Rattle.schedule.specs.Closed.{readBefore}
 use Rattle.header.specs.Limits.{maxFrames}
 
 -- the count of the pool rule, for a save or a read
@@ -54,3 +55,8 @@ pub record Bounds (f : List ℕ → ℕ → ℕ) (cycles : List ℕ) (r : ℕ) :
 -- the largest of f over the frames of a plan
 abbrev pub mostOf : (List ℕ → ℕ → ℕ) → List ℕ → ℕ
 mostOf f cycles = largest (tabulate (length cycles) (f cycles))
+
+-- the most frames that are read before an earlier one, a read's peak; a save has none
+abbrev pub peakOf : Bool → List ℕ → ℕ
+peakOf true cycles = 0
+peakOf false cycles = mostOf readBefore cycles

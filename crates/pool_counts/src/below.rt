@@ -5,7 +5,7 @@ ghost use mathlib.Core.Path.{_≡_};
 ghost use Rattle.schedule.specs.Schedule.{oBacklog, iBacklog};
 ghost use Rattle.schedule.specs.Closed.{readBefore};
 ghost use Rattle.header.specs.Limits.{maxFrames};
-ghost use Rattle.pool_counts.specs.Counts.{Zeroed, Low, Tallied, Table, Bounds, mostOf};
+ghost use Rattle.pool_counts.specs.Counts.{Zeroed, Low, Tallied, Table, Bounds, backlogOf, mostOf, peakOf};
 use counting::Cycle;
 use header::limits;
 
@@ -40,7 +40,7 @@ fn add_up(plan: &[u16], top: Cycle, table: &mut [u16])
 }
 
 // Fills a table of zeros with how many frames have a cycle before each cycle.
-pub fn fill(plan: &[u16], top: Cycle, table: &mut [u16])
+fn fill(plan: &[u16], top: Cycle, table: &mut [u16])
     requires { ⌜ Zeroed (now table) × Low (now plan) (top .0) ⌝ }
     ensures { λ r. ⌜ Table (now (plan .entry)) (now (table .exit)) (top .0) ⌝ }
 {
@@ -55,9 +55,9 @@ pub struct Most {
 }
 
 // A read. `ceiling` is one more than the largest cycle so far, 0 before the first frame.
-pub fn most_of_read(plan: &[u16], top: Cycle, table: &[u16]) -> Most
+fn most_of_read(plan: &[u16], top: Cycle, table: &[u16]) -> Most
     requires { ⌜ Table (now plan) (now table) (top .0) ⌝ }
-    ensures { λ r. ⌜ (r .backlog ≡ mostOf iBacklog (now (plan .entry))) × (r .before ≡ mostOf readBefore (now (plan .entry))) ⌝ }
+    ensures { λ r. ⌜ Bounds iBacklog (now (plan .entry)) (r .backlog) × (r .before ≡ mostOf readBefore (now (plan .entry))) ⌝ }
 {
     let n = plan.len();
     let mut ceiling: usize = 0;
@@ -85,7 +85,7 @@ pub fn most_of_read(plan: &[u16], top: Cycle, table: &[u16]) -> Most
 const PAST_ALL: usize = limits::FRAMES + 1;
 
 // A save. `floor` is the smallest cycle of the later frames, past all behind the last.
-pub fn most_of_save(plan: &[u16], top: Cycle, table: &[u16]) -> u16
+fn most_of_save(plan: &[u16], top: Cycle, table: &[u16]) -> u16
     requires { ⌜ Table (now plan) (now table) (top .0) ⌝ }
     ensures { λ r. ⌜ Bounds oBacklog (now (plan .entry)) r ⌝ }
 {
@@ -102,4 +102,21 @@ pub fn most_of_save(plan: &[u16], top: Cycle, table: &[u16]) -> u16
         }
     }
     most
+}
+
+// The largest count of a plan whose cycles are up to `top`, and the peak, which a save does not have.
+pub fn most_of(save: bool, plan: &[u16], top: Cycle) -> Most
+    requires { ⌜ Low (now plan) (top .0) ⌝ }
+    ensures { λ r. ⌜ Bounds (backlogOf save) (now (plan .entry)) (r .backlog) × (r .before ≡ peakOf save (now (plan .entry))) ⌝ }
+{
+    let mut table = [0u16; limits::FRAMES + 2];
+    fill(plan, top, &mut table);
+    if save {
+        let backlog = most_of_save(plan, top, &table);
+        return Most {
+            backlog: backlog,
+            before: 0,
+        };
+    }
+    most_of_read(plan, top, &table)
 }

@@ -50,7 +50,8 @@ module _ (t before : List ℕ) (n : length before ≡ maxFrames) where
         record { header = h; cards = cards; read = e; room = room; length-is = call .1 .0; cycles = call .1 .1 }
 
   made-from :
-      (p : Parsed) → parse t ≡ p → (after : List ℕ) (T : Cycle) → Planned T ≡ planOf p (length before) → after ≡ bufferAfter p before → Made t (T .0) after
+      (p : Parsed) → parse t ≡ p → (after : List ℕ) (T : Cycle)
+      → Planned T ≡ planOf p (length before) → after ≡ bufferAfter p before → Made t (T .0) after
   unfolding planOf
   made-from (accepted h cards) e after T a b = made h cards e after T a b
   made-from (refused k) e after T a b = let z : _≡_ {A = ℕ} 0 1 = cc in absurd (omega arith)

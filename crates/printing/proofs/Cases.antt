@@ -6,7 +6,8 @@ use Rattle.schedule.specs.Greedy.{saveAndKeep, greedyWriting, lazyPrefetching}
 use Rattle.text.specs.Text.{digit, digits, number, isLine}
 use Rattle.text.specs.Hex.{digitOf, hex}
 use Rattle.header.specs.Heading.{headerOf, withinLimits, heading}
-use Rattle.ticket.specs.Ticket.{cardAt, lineFault, linesFault, partFault, parse}
+use Rattle.frame_lines.specs.Lines.{cardAt, lineFault, linesFault, partFault}
+use Rattle.ticket.specs.Ticket.{parse}
 use Rattle.printing.specs.Printed.{frameLines, planText, refusalText, textOf}
 use Rattle.printing.specs.Cases.{Case, cases}
 

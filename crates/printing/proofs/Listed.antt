@@ -16,7 +16,8 @@ use Rattle.text.proofs.Hex.{length-hex}
 use Rattle.text.specs.Text.{endByte}
 use Rattle.header.specs.Limits.{maxFrames}
 use Rattle.header.specs.declared.Header.{Header}
-use Rattle.ticket.specs.Ticket.{lineOf, lineDigits}
+use Rattle.frame_lines.specs.Lines.{lineDigits}
+use Rattle.ticket.specs.Ticket.{lineOf}
 use Rattle.ticket.proofs.Main.{accepted-length, accepted-few, line-card}
 use Rattle.planner.specs.Plan.{planFor}
 use Rattle.printing.specs.Printed.{frameLine, frameLines, planText, textOf, printed, refusalText}

@@ -18,7 +18,8 @@ module _ (text before : List ℕ) where
   unfolding bytesIn bufferAfter
   no-room h = record { answer = rw (lt-leb (length text) (length before) h); buffer = rw (lt-leb (length text) (length before) h) }
 
-  pub room : (after : List ℕ) (bytes : ℕ) → length text ≤ length before → bytes ≡ length text → after ≡ sets before 0 text → Put text before after bytes
+  pub room : (after : List ℕ) (bytes : ℕ)
+      → length text ≤ length before → bytes ≡ length text → after ≡ sets before 0 text → Put text before after bytes
   unfolding bytesIn bufferAfter
   room after bytes h b e =
       record {

@@ -12,7 +12,8 @@ use Rattle.counting.specs.Frames.{cardOf}
 use Rattle.schedule.specs.Schedule.{cycleOf}
 use Rattle.schedule.specs.Greedy.{Plan}
 use Rattle.text.specs.Hex.{hex, endOfLine}
-use Rattle.ticket.specs.Ticket.{Parsed, accepted, refused, lineDigits, parse}
+use Rattle.frame_lines.specs.Lines.{lineDigits}
+use Rattle.ticket.specs.Ticket.{Parsed, accepted, refused, parse}
 use Rattle.planner.specs.Plan.{planFor}
 
 -- "for each frame position (4), card (2), cycle (4)"

@@ -3,7 +3,7 @@
 -- Assumes nothing.
 use Prim.Native.Nat.{ℕ, _+_, _*_}
 use Rattle.header.specs.Limits.{maxFrames}
-use Rattle.ticket.specs.Ticket.{lineDigits}
+use Rattle.frame_lines.specs.Lines.{lineDigits}
 
 -- "looks at its first 65,536 bytes, which settle every ticket"
 abbrev pub inputBytes : ℕ

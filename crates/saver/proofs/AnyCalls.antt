@@ -47,7 +47,8 @@ module _ (list : List ℕ) where
   refused-shown p s r calls k v = rw (k .0, k .1) v
 
   -- a call that tells a step
-  told-shown : (p q : Plan) (r : Answer) (calls : List Call) → logOf list q ≡ logOf list p ++ logged r → Shown q (after (r .saver) calls) (log (r .saver) calls)
+  told-shown : (p q : Plan) (r : Answer) (calls : List Call)
+      → logOf list q ≡ logOf list p ++ logged r → Shown q (after (r .saver) calls) (log (r .saver) calls)
       → Shown p (after (r .saver) calls) (logged r ++ log (r .saver) calls)
   told-shown p q r calls e v =
       (v .0, v .1, v .2 ∙ ap (λ l. l ++ log (r .saver) calls) e ∙ append-assoc (logOf list p) (logged r) (log (r .saver) calls))
@@ -110,8 +111,11 @@ pub formed-after : (calls : List Call) (s : Saver) → Formed s → Formed (afte
 formed-after [] s f = (f, refl)
 formed-after (save card ∷ calls) s f =
     let r : Formed (after (saveOf s card .saver) calls) × (after (saveOf s card .saver) calls .pool ≡ saveOf s card .saver .pool) =
-    formed-after calls (saveOf s card .saver) (formed-save s card f) in
-    (r .0, r .1 ∙ save-cases s card (λ (a : Answer). a .saver .pool ≡ s .pool) (λ a. refl) (λ b. refl) (λ d. refl) (λ a b d e. refl) (λ a b d e. refl))
+    formed-after calls (saveOf s card .saver) (formed-save s card f) in (
+      r .0,
+      r .1 ∙ save-cases s card (λ (a : Answer). a .saver .pool ≡ s .pool)
+          (λ a. refl) (λ b. refl) (λ d. refl) (λ a b d e. refl) (λ a b d e. refl),
+    )
 formed-after (close ∷ calls) s f =
     let r : Formed (after (closeOf s .saver) calls) × (after (closeOf s .saver) calls .pool ≡ closeOf s .saver .pool) =
     formed-after calls (closeOf s .saver) (formed-close s f) in

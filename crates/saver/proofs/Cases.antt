@@ -11,7 +11,8 @@ unfolding newOf saveOf closeOf
 cases-hold = refl
 
 -- 14 before any frame, then a frame, a card that is not there, a closing cycle, one too many, and a save after closing: 15 before 8
-pub refusals-hold : refusals (newOf 2 2 .saver) (close ∷ save 0 ∷ save 2 ∷ close ∷ close ∷ save 0 ∷ save 2 ∷ []) ≡ 14 ∷ 0 ∷ 8 ∷ 0 ∷ 14 ∷ 15 ∷ 15 ∷ []
+pub refusals-hold : refusals (newOf 2 2 .saver) (close ∷ save 0 ∷ save 2 ∷ close ∷ close ∷ save 0 ∷ save 2 ∷ [])
+    ≡ 14 ∷ 0 ∷ 8 ∷ 0 ∷ 14 ∷ 15 ∷ 15 ∷ []
 unfolding newOf saveOf closeOf
 refusals-hold = refl
 

@@ -29,7 +29,8 @@ use Rattle.saver.proofs.Runs.{tells-logged}
 
 module _ (list : List ℕ) where
   -- the log of some more cycles after that of a plan
-  more : (p q r : Plan) (a b : List (List ℕ)) → logOf list q ≡ logOf list p ++ a → logOf list r ≡ logOf list q ++ b → logOf list r ≡ logOf list p ++ (a ++ b)
+  more : (p q r : Plan) (a b : List (List ℕ))
+      → logOf list q ≡ logOf list p ++ a → logOf list r ≡ logOf list q ++ b → logOf list r ≡ logOf list p ++ (a ++ b)
   more p q r a b d e = e ∙ ap (λ l. l ++ b) d ∙ append-assoc (logOf list p) a b
 
   -- k closing cycles; those asked of an empty pool are refused

@@ -22,7 +22,11 @@ cases =
     -- list 0 0 1, pool 2: the save plan is 1 2 2
     record { pool = 2; calls = savedAndClosed (0 ∷ 0 ∷ 1 ∷ []) 2; expected = (0 ∷ none ∷ []) ∷ (1 ∷ 2 ∷ []) ∷ [] }
     -- pool 1: 1 2 3
-    ∷ record { pool = 1; calls = savedAndClosed (0 ∷ 0 ∷ 1 ∷ []) 1; expected = (0 ∷ none ∷ []) ∷ (1 ∷ none ∷ []) ∷ (none ∷ 2 ∷ []) ∷ [] }
+    ∷ record {
+      pool = 1;
+      calls = savedAndClosed (0 ∷ 0 ∷ 1 ∷ []) 1;
+      expected = (0 ∷ none ∷ []) ∷ (1 ∷ none ∷ []) ∷ (none ∷ 2 ∷ []) ∷ [];
+    }
     -- a full pool makes no cycle until a further frame comes: nothing is written
     ∷ record { pool = 2; calls = savedAndClosed (0 ∷ 1 ∷ []) 0; expected = [] }
     -- a save on a card that is not there is refused and uses up no position; a closing cycle too many writes nothing, and neither does a save

@@ -36,7 +36,8 @@ pub record Tells (list : List ℕ) (p q : Plan) (r : Answer) : Type 0 where
 -- A save that is not refused is greedyWriting's step for the next frame of the list.
 pub record SaveFollows (s : Saver) (card : ℕ) (r : Answer) : Type 0 where
   pub follows :
-      (list : List ℕ) (p : Plan) → ShowsPlan list p s → cardOf list (s .taken) ≡ card → r .refusal ≡ 0 → Tells list p (saveFrame list (s .pool) p) r
+      (list : List ℕ) (p : Plan) → ShowsPlan list p s → cardOf list (s .taken) ≡ card
+      → r .refusal ≡ 0 → Tells list p (saveFrame list (s .pool) p) r
 
 -- A closing cycle that is not refused is greedyWriting's cycle.
 pub record CloseFollows (s : Saver) (r : Answer) : Type 0 where

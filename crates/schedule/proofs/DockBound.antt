@@ -80,7 +80,8 @@ module _ (m : ℕ) (cards : List ℕ) (D : ℕ) where
   missing-under-bound (suc k) d w e c =
       under-bound m D L (cardOf (reverse cards)) k c (missing d c) (omega (arith, w .0 c)) (missing-last d (m + sum D (B k)) c (w .1))
 
-  missing-mono : (d d′ : Dock) (c : ℕ) → ((i : ℕ) → card i ≡ c → isMissing d i ≡ true → isMissing d′ i ≡ true) → missing d c ≤ missing d′ c
+  missing-mono : (d d′ : Dock) (c : ℕ)
+      → ((i : ℕ) → card i ≡ c → isMissing d i ≡ true → isMissing d′ i ≡ true) → missing d c ≤ missing d′ c
   missing-mono d d′ c h =
       sum-mono L (λ i. bit (eqb (card i) c && isMissing d i)) (λ i. bit (eqb (card i) c && isMissing d′ i))
       (λ i l. bit-and-mono (eqb (card i) c) (isMissing d i) (isMissing d′ i) (λ e. h i (eqb-true (card i) c e)))

@@ -15,7 +15,19 @@ use Rattle.counting.specs.Frames.{cardOf}
 use Rattle.counting.proofs.Bits.{by-cases, or-cases, and-left, bit-mono, bit-le-one, bit-and-off}
 use Rattle.counting.proofs.Sums.{sum-cong, sum-mono, passes-after}
 use Rattle.schedule.proofs.Bound.{onCard, admitted, bound, bound-suc}
-use Rattle.schedule.proofs.Pool.{wait, waitOn, first, written, Cycled, written-waiting, written-next, made-next, card-rule-next, pool-written, pool-next}
+use Rattle.schedule.proofs.Pool.{
+  wait,
+  waitOn,
+  first,
+  written,
+  Cycled,
+  written-waiting,
+  written-next,
+  made-next,
+  card-rule-next,
+  pool-written,
+  pool-next,
+}
 
 module _ (m : ℕ) (cards : List ℕ) (D : ℕ) (low : (i : ℕ) → i < length cards → cardOf cards i < D) where
   abbrev L : ℕ
@@ -86,7 +98,8 @@ module _ (m : ℕ) (cards : List ℕ) (D : ℕ) (low : (i : ℕ) → i < length 
             | no l ↦
                 (let e : u ≡ suc t = omega arith in
                 rw e
-                (sum-cong n (λ i. bit (eqb (card i) c && (not (wait cards y′ i) && leb (y′ i) (suc t)))) (λ i. bit (eqb (card i) c && not (wait cards y′ i)))
+                (sum-cong n (λ i. bit (eqb (card i) c && (not (wait cards y′ i) && leb (y′ i) (suc t))))
+                (λ i. bit (eqb (card i) c && not (wait cards y′ i)))
                 (λ i g. rw (le-leb (y′ i) (suc t) (cycles-made-next i g), and-true (not (wait cards y′ i))))
                 ∙ meets-bound-next c))
           ]
@@ -109,7 +122,8 @@ module _ (m : ℕ) (cards : List ℕ) (D : ℕ) (low : (i : ℕ) → i < length 
           (λ z. absurd (eqb-false (y j) 0 e (omega (arith, eqb-true (y′ j) 0 z))))
           (λ z. absurd (omega (arith, leb-true (y′ i) (y′ j) z, v .cycles-made j l))))
 
-      was-behind : (i j : ℕ) → y′ i ≡ y i → j < n → (wait cards y′ j || leb (y′ i) (y′ j)) ≡ true → (wait cards y j || leb (y i) (y j)) ≡ true
+      was-behind : (i j : ℕ) → y′ i ≡ y i → j < n
+          → (wait cards y′ j || leb (y′ i) (y′ j)) ≡ true → (wait cards y j || leb (y i) (y j)) ≡ true
       was-behind i j u l x =
           by-cases (wait cards y j) (λ e. rw e) (λ e. rw (stays j l e, u) at x)
 
@@ -205,7 +219,10 @@ module _ (m : ℕ) (cards : List ℕ) (D : ℕ) (low : (i : ℕ) → i < length 
             meets-bound = meets-bound-enter;
             met-bound = met-bound-enter;
             no-cycle-lost = v .no-cycle-lost;
-            cycles-made = λ i l. elim (decLt i n) [ yes k ↦ rw (old i k) (v .cycles-made i k) | no k ↦ (let e : i ≡ n = omega arith in rw (e, new) zero-le) ];
+            cycles-made = λ i l. elim (decLt i n) [
+              | yes k ↦ rw (old i k) (v .cycles-made i k)
+              | no k ↦ (let e : i ≡ n = omega arith in rw (e, new) zero-le)
+            ];
             card-rule = card-rule-enter;
             pool-rule = pool-rule-enter;
           }

@@ -80,7 +80,8 @@ module _ (m : ℕ) (cards cycles : List ℕ) where
   unfolding verdictOnRead
   valid-read = λ n T p. exact.valid-correct iBacklog m cards cycles (valid (cyclesIn cycles) (peak (length cards) cards (stepsOf cycles) emptyDock)) T p n
 
-  pub read-valid : CorrectRead m cards cycles → verdictOnRead m cards cycles ≡ valid (cyclesIn cycles) (peak (length cards) cards (stepsOf cycles) emptyDock)
+  pub read-valid : CorrectRead m cards cycles
+      → verdictOnRead m cards cycles ≡ valid (cyclesIn cycles) (peak (length cards) cards (stepsOf cycles) emptyDock)
   unfolding verdictOnRead
   read-valid = exact.correct-valid iBacklog m cards cycles (valid (cyclesIn cycles) (peak (length cards) cards (stepsOf cycles) emptyDock))
 

@@ -43,7 +43,8 @@ module _ (m : ℕ) (cards : List ℕ) where
 
   -- A run that delivers everything is complete, with the cycles ended after some first steps of it that deliver everything.
   pub completes : (steps : List Step) (d : Dock) → length cards ≤ run m cards steps d .delivered
-      → (n : ℕ) × (length cards ≤ run m cards (take n steps) d .delivered) × (outcome m cards steps d ≡ complete (run m cards (take n steps) d .ended))
+      → (n : ℕ) × (length cards ≤ run m cards (take n steps) d .delivered)
+      × (outcome m cards steps d ≡ complete (run m cards (take n steps) d .ended))
   unfolding run outcome
   completes [] d h = (0, h, rw (le-leb (length cards) (d .delivered) h))
   completes (a ∷ steps) d h =

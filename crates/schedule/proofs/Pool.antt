@@ -26,7 +26,8 @@ cond-le true x t h = omega arith
 cond-le false x t h = omega arith
 
 -- two frames that are not both written now have the same cycle only while both wait
-cond-rule : (a b : Bool) (x y t : ℕ) → x ≤ t → y ≤ t → (a ≡ true → b ≡ true → ⊥) → (x ≡ y → x ≡ 0) → cond a (suc t) x ≡ cond b (suc t) y
+cond-rule : (a b : Bool) (x y t : ℕ) → x ≤ t → y ≤ t
+    → (a ≡ true → b ≡ true → ⊥) → (x ≡ y → x ≡ 0) → cond a (suc t) x ≡ cond b (suc t) y
     → cond a (suc t) x ≡ 0
 cond-rule true true x y t h g n r e = absurd (n refl refl)
 cond-rule true false x y t h g n r e = absurd (omega arith)
@@ -75,7 +76,8 @@ module _ (cards : List ℕ) where
         | no e ↦ rw (ne-eqb (card i) c e) refl
       ]
 
-  pub written-next : (n : ℕ) (y : ℕ → ℕ) (t : ℕ) (y′ : ℕ → ℕ) → Cycled n y t y′ → (c : ℕ) → written n y′ c ≡ written n y c + min 1 (waiting n y c)
+  pub written-next : (n : ℕ) (y : ℕ → ℕ) (t : ℕ) (y′ : ℕ → ℕ) → Cycled n y t y′
+      → (c : ℕ) → written n y′ c ≡ written n y c + min 1 (waiting n y c)
   written-next n y t y′ h c =
       omega (
         arith,

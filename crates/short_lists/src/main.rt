@@ -25,9 +25,9 @@ fn planned(ticket: &[u8]) -> u64 {
     lists::with(lists::from_array(buffer), greedy::MADE, t)
 }
 
-// One ticket: its plan against greedyWriting; then what else is compared of it. A ticket with differences is written out after them.
+// One ticket: its plan against greedyWriting; then what else is compared of it. After differences that were written out comes their ticket.
 fn one_ticket(counts: &mut [u64; 32], c: Case) {
-    let before = report::add(counts, report::DIFFERENCES, 0);
+    let before = report::add(counts, report::WRITTEN, 0);
     let text = tickets::text_of(c);
     let ticket = &text[0..15 + 3 * ((c.n % 9) as usize)];
     let plan = planned(ticket);
@@ -44,7 +44,7 @@ fn one_ticket(counts: &mut [u64; 32], c: Case) {
     }
     steps::compare_all(counts, ticket, c, plan);
     schedules::compare_fewest(counts, ticket, c, plan);
-    if report::add(counts, report::DIFFERENCES, 0) != before {
+    if report::add(counts, report::WRITTEN, 0) != before {
         io::write_all(libc::STDOUT_FILENO, ticket);
     }
 }

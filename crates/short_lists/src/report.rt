@@ -28,7 +28,10 @@ pub(crate) const STEPS: usize = 12;
 pub(crate) const SAVERS: usize = 13;
 
 // The differences of all topics; and of the one that is written, the answer expected, the answer, and the schedule or steps.
-pub(crate) const DIFFERENCES: usize = 22;
+const DIFFERENCES: usize = 22;
+
+// The differences that were written out.
+pub(crate) const WRITTEN: usize = 26;
 
 // What is of no kind that is counted.
 pub(crate) const NO_KIND: usize = 31;
@@ -103,6 +106,7 @@ pub(crate) fn compare(
         counts[23] = expected;
         counts[24] = got;
         counts[25] = item;
+        add(counts, WRITTEN, 1);
         say(counts, topic, std::num::wrapping_add_usize(topic, 1));
         say(counts, 16, 17);
     }

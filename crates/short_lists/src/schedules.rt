@@ -22,6 +22,7 @@ fn verdict_of(v: Verdict) -> u64 {
     }
 }
 
+// The checker's verdict on a schedule of n frames.
 fn checked(ticket: &[u8], n: u64, plan: u64) -> u64 {
     let cycles = lists::to_array(plan);
     let seen = checker::check(ticket, &cycles[0..(n % 9) as usize]);

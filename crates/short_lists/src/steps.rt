@@ -14,6 +14,7 @@ use dock::Dock;
 use dock::Step;
 use std::num::wrapping_add_u64;
 
+// The step of this number, as the product takes it.
 fn step_of(n: u64, number: u64) -> Step {
     if number < n {
         Step::Read(Position((number % 100) as u16))

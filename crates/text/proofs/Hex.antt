@@ -82,7 +82,12 @@ number-back s at zero e h = refl
 number-back s at (suc n) e h =
     let l : n < length (drop at s) = rw length-drop (omega arith) in
     hex-step n (number s at n) (digit (getD s (at + n) 0)) (last-digit s at n e)
-    ∙ rw (number-back s at n (fewer-digits s at n e) (omega arith), digit-back (getD s (at + n) 0) (last-digit s at n e), take-suc (drop at s) n 0 l, getD-drop)
+    ∙ rw (
+      number-back s at n (fewer-digits s at n e) (omega arith),
+      digit-back (getD s (at + n) 0) (last-digit s at n e),
+      take-suc (drop at s) n 0 l,
+      getD-drop,
+    )
 
 -- a line that is read and written again
 pub line-back : (s : List ℕ) (at n : ℕ) → Line s at n → hex n (number s at n) ++ endOfLine ≡ take (n + 1) (drop at s)

@@ -10,7 +10,8 @@ use Rattle.counting.specs.Frames.{cardOf}
 use Rattle.counting.proofs.Lists.{length-tabulate, getD-tabulate}
 use Rattle.header.specs.Heading.{headerBytes, headerOf}
 use Rattle.ticket.specs.Grounds.{Says, row1, row2, row3, row4, row5, row6, row7, row8, row9, none, HeaderPasses, LinesPass, framesOf, part, Fits}
-use Rattle.ticket.specs.Ticket.{Parsed, accepted, refused, lineBytes, cardAt, parse}
+use Rattle.frame_lines.specs.Lines.{lineBytes, cardAt}
+use Rattle.ticket.specs.Ticket.{Parsed, accepted, refused, parse}
 use Rattle.ticket.proofs.Reader.{says}
 use Rattle.header.specs.declared.Header.{Header}
 

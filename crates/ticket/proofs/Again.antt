@@ -18,7 +18,8 @@ use Rattle.header.specs.Limits.{Within, edition1, modeSaveAndKeep, maxCards, ma
 use Rattle.header.specs.declared.Header.{Header}
 use Rattle.ticket.specs.Grounds.{HeaderPasses, LinePasses, none, Fits, part}
 use Rattle.ticket.specs.Print.{lineTexts, ticketText}
-use Rattle.ticket.specs.Ticket.{accepted, lineDigits, lineBytes, cardAt, parse}
+use Rattle.frame_lines.specs.Lines.{lineDigits, lineBytes, cardAt}
+use Rattle.ticket.specs.Ticket.{accepted, parse}
 use Rattle.ticket.proofs.Reader.{only}
 
 -- The frame lines.

@@ -18,10 +18,13 @@ use Rattle.header.specs.Numbers.{numbersOf}
 use Rattle.header.specs.Limits.{maxCards, maxFrames}
 use Rattle.ticket.specs.Grounds.{Fits, ReadAs}
 use Rattle.ticket.specs.Part.{address}
-use Rattle.ticket.specs.Ticket.{Parsed, accepted, refused, cardAt, partFault, parse, zeros, ticketOf, numbersIn, countsUpTo, countsOf}
-use Rattle.ticket.specs.Ticket.{lineBytes, lineDigits, lineRefusalOf, lineStart, lineIn, lineOf, linePlace}
+use Rattle.frame_lines.specs.Lines.{cardAt, partFault}
+use Rattle.frame_lines.specs.Tally.{countsUpTo}
+use Rattle.ticket.specs.Ticket.{Parsed, accepted, refused, parse, zeros, ticketOf, numbersIn, countsOf}
+use Rattle.frame_lines.specs.Lines.{lineBytes, lineDigits}
+use Rattle.ticket.specs.Ticket.{lineRefusalOf, lineStart, lineIn, lineOf, linePlace}
 use Rattle.ticket.proofs.Accepted.{as-many, fits, line-inside}
-use Rattle.ticket.proofs.Counting.{counts-front}
+use Rattle.frame_lines.proofs.Counting.{counts-front}
 use Rattle.ticket.proofs.Reader.{header-passes, header-read, refusal-number}
 use Rattle.header.specs.declared.Header.{Header}
 use Rattle.ticket.specs.declared.Ticket.{Ticket}

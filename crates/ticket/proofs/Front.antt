@@ -14,7 +14,8 @@ use Rattle.header.specs.Heading.{headerDigits, headerBytes, headerOf, heading}
 use Rattle.header.specs.Limits.{maxFrames}
 use Rattle.header.specs.declared.Answer.{Answer}
 use Rattle.header.specs.declared.Answer.the-variants.{Accepted, Refused}
-use Rattle.ticket.specs.Ticket.{parsePart, parse, lineBytes, lineDigits, cardAt, lineFault, linesFault, partFault}
+use Rattle.frame_lines.specs.Lines.{lineBytes, lineDigits, cardAt, lineFault, linesFault, partFault}
+use Rattle.ticket.specs.Ticket.{parsePart, parse}
 use Rattle.ticket.proofs.Answers.{few-frames}
 use Rattle.counting.proofs.Parts.{below-take}
 

@@ -6,5 +6,3 @@ pub mod Answers
 pub mod Accepted
 pub mod Reader
 pub mod Passing
-pub mod Counting
-pub mod Faults

@@ -12,7 +12,8 @@ use Rattle.header.specs.Heading.{headerBytes}
 use Rattle.header.specs.Limits.{Within, maxFrames}
 use Rattle.ticket.specs.Grounds.{Says, Fits}
 use Rattle.ticket.specs.Print.{ticketText}
-use Rattle.ticket.specs.Ticket.{Parsed, accepted, refused, lineBytes, lineDigits, parse, lineOf}
+use Rattle.frame_lines.specs.Lines.{lineBytes, lineDigits}
+use Rattle.ticket.specs.Ticket.{Parsed, accepted, refused, parse, lineOf}
 use Rattle.header.specs.declared.Header.{Header}
 use Rattle.ticket.proofs.Reader as reader
 use Rattle.ticket.proofs.Accepted as accepting
@@ -33,7 +34,8 @@ pub accepted-or-refused :
     (t : List ℕ)
     → ((h : Header) × (cards : List ℕ) × (parse t ≡ accepted h cards)) ⊎ ((k : ℕ) × Within 9 k × (parse t ≡ refused k))
 accepted-or-refused t =
-    (elim (parse t) as (λ a. parse t ≡ a → ((h : Header) × (cards : List ℕ) × (a ≡ accepted h cards)) ⊎ ((k : ℕ) × Within 9 k × (a ≡ refused k))) [
+    (elim (parse t) as (λ a. parse t ≡ a → ((h : Header) × (cards : List ℕ) × (a ≡ accepted h cards))
+    ⊎ ((k : ℕ) × Within 9 k × (a ≡ refused k))) [
       | accepted h cards ↦ λ e. inl (h, cards, refl)
       | refused k ↦ λ e. inr (k, reader.refusal-number t k e, refl)
     ]) refl

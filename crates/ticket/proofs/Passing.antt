@@ -7,8 +7,8 @@ use Rattle.text.proofs.Lines.{line-true}
 use Rattle.header.specs.Heading.{headerDigits, headerOf, heading}
 use Rattle.header.proofs.Judged.{judge-accepts, heading-of}
 use Rattle.ticket.specs.Grounds.{HeaderPasses, LinePasses, LinesPass, cardsOf, part}
-use Rattle.ticket.specs.Ticket.{lineFault, linesFault}
-use Rattle.ticket.proofs.Faults.{line-0, no-fault}
+use Rattle.frame_lines.specs.Lines.{lineFault, linesFault}
+use Rattle.frame_lines.proofs.Faults.{line-0, no-fault}
 use Rattle.header.specs.declared.Answer.the-variants.{Accepted}
 
 module _ (t : List ℕ) where

@@ -16,8 +16,9 @@ use Rattle.header.specs.Limits.{edition1, modeSaveAndKeep, maxCards, maxPool, m
 use Rattle.header.proofs.Judged.{range, judge-2, judge-3, judge-4, judge-5, judge-6, heading-1, heading-of}
 use Rattle.ticket.specs.Grounds.{Says, row1, row2, row3, row4, row5, row6, row7, row8, row9, none}
 use Rattle.ticket.specs.Grounds.{HeaderPasses, LinePasses, LinesPass, editionOf, modeOf, cardsOf, poolOf, framesOf, part}
-use Rattle.ticket.specs.Ticket.{Parsed, accepted, refused, lineDigits, lineBytes, cardAt, partFault, parse}
-use Rattle.ticket.proofs.Faults.{line-7, line-8, refuses, part-9, part-0}
+use Rattle.frame_lines.specs.Lines.{lineDigits, lineBytes, cardAt, partFault}
+use Rattle.ticket.specs.Ticket.{Parsed, accepted, refused, parse}
+use Rattle.frame_lines.proofs.Faults.{line-7, line-8, refuses, part-9, part-0}
 use Rattle.ticket.proofs.Passing.{header-accepted, lines-accepted}
 use Rattle.header.specs.declared.Header.{Header}
 use Rattle.header.specs.declared.Answer.the-variants.{Accepted, Refused}

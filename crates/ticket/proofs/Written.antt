@@ -19,7 +19,8 @@ use Rattle.text.proofs.Hex.{number-back, line-back}
 use Rattle.header.specs.Heading.{headerOf, headerBytes, headerDigits}
 use Rattle.ticket.specs.Grounds.{part, framesOf}
 use Rattle.ticket.specs.Print.{headerText, lineTexts, ticketText}
-use Rattle.ticket.specs.Ticket.{accepted, parse, lineDigits, lineBytes, cardAt, lineOf}
+use Rattle.frame_lines.specs.Lines.{lineDigits, lineBytes, cardAt}
+use Rattle.ticket.specs.Ticket.{accepted, parse, lineOf}
 use Rattle.ticket.proofs.Accepted.{row, as-many, card-at}
 use Rattle.header.specs.declared.Header.{Header}
 
@@ -78,7 +79,8 @@ written t h cards e =
 
 -- the line that is handed back is the frame's card in 2 digits
 pub line-back-at :
-    (t : List ℕ) (h : Header) (cards : List ℕ) → parse t ≡ accepted h cards → (p : ℕ) → p < length cards → lineOf t p ≡ hex lineDigits (cardOf cards p)
+    (t : List ℕ) (h : Header) (cards : List ℕ) → parse t ≡ accepted h cards
+    → (p : ℕ) → p < length cards → lineOf t p ≡ hex lineDigits (cardOf cards p)
 unfolding lineOf cardAt
 line-back-at t h cards e p l =
     let r = row t h cards e in

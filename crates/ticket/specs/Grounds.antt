@@ -10,7 +10,8 @@ use Rattle.counting.specs.Frames.{cardOf}
 use Rattle.text.specs.Text.{Line}
 use Rattle.header.specs.Heading.{headerDigits, headerBytes, headerOf}
 use Rattle.header.specs.Limits.{Within, Outside, edition1, modeSaveAndKeep, maxCards, maxPool, maxFrames}
-use Rattle.ticket.specs.Ticket.{Parsed, accepted, refused, lineDigits, lineBytes, cardAt, parse}
+use Rattle.frame_lines.specs.Lines.{lineDigits, lineBytes, cardAt}
+use Rattle.ticket.specs.Ticket.{Parsed, accepted, refused, parse}
 use Rattle.ticket.specs.declared.Ticket.{Ticket}
 use Rattle.header.specs.declared.Header.{Header}
 use Rattle.header.specs.declared.Answer.the-variants.{Accepted, Refused}

@@ -2,4 +2,3 @@ pub mod Ticket
 pub mod Grounds
 pub mod Print
 pub mod Part
-pub mod Lines

@@ -6,7 +6,7 @@ use lib.ListN.{length}
 use Rattle.header.specs.Limits.{edition1, maxCards}
 use Rattle.header.specs.declared.Header.{Header}
 use Rattle.text.specs.Hex.{hex, endOfLine}
-use Rattle.ticket.specs.Ticket.{lineDigits}
+use Rattle.frame_lines.specs.Lines.{lineDigits}
 
 abbrev pub headerText : Header → List ℕ
 headerText h = hex 2 (h .edition) ++ (hex 2 (h .mode) ++ (hex 2 (h .cards) ++ (hex 4 (h .pool) ++ (hex 4 (h .frames) ++ endOfLine))))

@@ -2,56 +2,26 @@
 --
 -- Edge cases: a ticket with no frames is its header alone; a text cut short is refused by 1 in its header and by 7 in its lines.
 -- Assumes nothing.
-use Prim.Native.Nat.{ℕ, zero, suc, _+_, _*_, _-_}
+use Prim.Native.Nat.{ℕ, _+_, _*_, _-_}
 use mathlib.Core.Bool.{cond}
 use mathlib.Core.List.{List, [], _++_}
 use lib.Dec.{eqb, ltb}
 use lib.ListN.{length, take, drop, replicate}
-use Rattle.counting.specs.Count.{howMany, tabulate}
-use Rattle.counting.specs.Frames.{cardOf}
-use Rattle.text.specs.Text.{number, isLine}
+use Rattle.counting.specs.Count.{tabulate}
 use Rattle.header.specs.Heading.{headerBytes, heading}
 use Rattle.header.specs.Numbers.{Numbers, acceptedAs, refusedBy}
 use Rattle.header.specs.Limits.{maxCards, maxFrames}
 use Rattle.header.specs.declared.Header.{Header}
 use Rattle.header.specs.declared.Answer.{Answer}
 use Rattle.header.specs.declared.Answer.the-variants.{Accepted, Refused}
+use Rattle.frame_lines.specs.Lines.{lineDigits, lineBytes, cardAt, partFault}
+use Rattle.frame_lines.specs.Tally.{countsUpTo}
 use Rattle.ticket.specs.declared.Ticket.{Ticket}
 
 -- What a text is read as: a header and the card of each frame in list order, or the number of a refusal.
 pub data Parsed : Type 0 where
   accepted : Header → List ℕ → Parsed
   refused : ℕ → Parsed
-
--- "One line of 2 digits follows for each frame: its card". The width of a line is said here alone.
-abbrev pub lineDigits : ℕ
-lineDigits = 2
-
-abbrev pub lineBytes : ℕ
-lineBytes = lineDigits + 1
-
--- A refusal, or, where there is none, what is refused next.
-abbrev pub orElse : ℕ → ℕ → ℕ
-orElse e next = cond (eqb e 0) next e
-
--- The frame lines, in "the part of the ticket that starts after its header".
-module _ (s : List ℕ) where
-  -- the card of frame i
-  unfoldable pub cardAt : ℕ → ℕ
-  cardAt i = number s (lineBytes * i) 2
-
-  -- The refusal of line i, 7 before 8; 0 for none.
-  unfoldable pub lineFault : ℕ → ℕ → ℕ
-  lineFault cards i = cond (isLine s (lineBytes * i) lineDigits) (cond (ltb (cardAt i) cards) 0 8) 7
-
-  -- "line by line": the refusal of the first of n lines that has one; 0 for none
-  unfoldable pub linesFault : ℕ → ℕ → ℕ
-  linesFault cards zero = 0
-  linesFault cards (suc n) = orElse (linesFault cards n) (lineFault cards n)
-
-  -- Refusals 7 to 9 of a part that should be n lines; 0 for none.
-  unfoldable pub partFault : ℕ → ℕ → ℕ
-  partFault cards n = orElse (linesFault cards n) (cond (ltb (lineBytes * n) (length s)) 9 0)
 
 abbrev pub parsePart : Answer → List ℕ → Parsed
 parsePart (Refused k) s = refused k
@@ -103,10 +73,6 @@ lineOf t p = cond (eqb (lineRefusalOf (parse t) p) 0) (lineIn t p) []
 -- and the byte of the ticket at which this part begins; the empty part stands at the ticket's first byte
 unfoldable pub linePlace : List ℕ → ℕ → ℕ
 linePlace t p = cond (eqb (lineRefusalOf (parse t) p) 0) (lineStart p) 0
-
--- for each of the 32 cards, how many of the first n frames it has
-abbrev pub countsUpTo : List ℕ → ℕ → List ℕ
-countsUpTo cards n = tabulate maxCards (λ c. howMany n (λ i. eqb (cardOf cards i) c))
 
 -- "A count of frames for each of the 32 cards"; beside a refusal all are 0
 abbrev pub countsOf : Parsed → List ℕ

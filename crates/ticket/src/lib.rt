@@ -5,10 +5,6 @@ ghost use Rattle.header.specs.Numbers.{numbersOf};
 ghost use Rattle.ticket.specs.Grounds.{ReadAs};
 ghost use Rattle.ticket.specs.Part.{address};
 ghost use Rattle.ticket.specs.Ticket.{refused, parse, ticketOf, numbersIn, refusalOf, lineRefusalOf, lineStart, lineOf, linePlace, countsOf};
-
-mod lines;
-mod tally;
-
 use counting::Position;
 use header::Answer;
 use header::Header;
@@ -36,7 +32,7 @@ fn read_part(t: &[u8], h: Header) -> Ticket
 {
     let value = text::digit_values();
     let mut card = [0u8; limits::FRAMES];
-    let number = lines::read_lines(&value, &t[15..], h.cards, h.frames, &mut card);
+    let number = frame_lines::read_lines(&value, &t[15..], h.cards, h.frames, &mut card);
     if number != 0 {
         return refused(number);
     }
@@ -112,6 +108,6 @@ pub fn counts(t: &[u8]) -> [u16; limits::CARDS]
     let card = ticket.card;
     match answer {
         Answer::Refused(_) => [0u16; limits::CARDS],
-        Answer::Accepted(h) => tally::tally(&card, h.frames),
+        Answer::Accepted(h) => frame_lines::tally::tally(&card, h.frames),
     }
 }

@@ -9,7 +9,8 @@ use lib.ListN.{length, take, drop}
 use borrow.Author.Tests.{ne-eqb, lt-ltb, le-ltb, le-leb, ltb-true, leb-true}
 use Rattle.counting.proofs.Bits.{and-left, and-right}
 use Rattle.header.specs.Limits.{maxFrames}
-use Rattle.ticket.specs.Ticket.{parse, refusalOf, lineBytes, lineDigits, lineStart}
+use Rattle.frame_lines.specs.Lines.{lineBytes, lineDigits}
+use Rattle.ticket.specs.Ticket.{parse, refusalOf, lineStart}
 use Rattle.ticket.proofs.Answers.{cut-line}
 use Rattle.walker.specs.Walk.{opened, hasLine, lineAt, placeAt, nextAt}
 

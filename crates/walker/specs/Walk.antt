@@ -11,7 +11,8 @@ use mathlib.Core.List.{List, [], _∷_, _++_}
 use lib.Dec.{eqb, ltb, leb}
 use lib.ListN.{length}
 use Rattle.header.specs.Limits.{maxFrames}
-use Rattle.ticket.specs.Ticket.{parse, refusalOf, lineBytes, lineStart, lineIn, lineOf}
+use Rattle.frame_lines.specs.Lines.{lineBytes}
+use Rattle.ticket.specs.Ticket.{parse, refusalOf, lineStart, lineIn, lineOf}
 use Rattle.counting.specs.declared.Position.{Position}
 use Rattle.walker.specs.declared.Walker.{Walker}
 

@@ -1,7 +1,7 @@
 -- `checker::verdicts::verdict` meets its contract.
 -- Assumes nothing.
 use mathlib.Core.Path.{_∙_}
-use Rattle.checker.proofs.Whole.{as-save, as-read}
+use Rattle.checker.proofs.Whole.{roomy, low-plan, judged}
 use borrow.Author.Needs.{needs}
 use Rattle.checker.proofs.verdicts.verdict.Statement.{statement}
 use Rattle.checker.proofs.verdicts.verdict.Tie as tie
@@ -18,23 +18,27 @@ verdict-on-late-requires c κs =
 returns : tie.Need-returns
 returns c = search needs
 
-verdict-on-save-requires : tie.Need-verdict-on-save-requires
-verdict-on-save-requires c κs =
-    let checking = c .before .before .before .before .before .before .pre in
-    let top-is = c .before .before .before .cycles-in .ensures in
-    (checking, top-is, c .before .if1 .left)
+most-of-requires : tie.Need-most-of-requires
+most-of-requires c κs =
+    let checking = c .before .before .before .before .before .pre in
+    let top-is = c .before .before .cycles-in .ensures in
+    low-plan checking top-is (c .if1 .left)
+
+first-fault-requires : tie.Need-first-fault-requires
+first-fault-requires c κs =
+    let checking = c .before .before .before .before .before .before .before .pre in
+    (checking, roomy (c .before .most-of .ensures .0))
+
+complete-requires : tie.Need-complete-requires
+complete-requires c κs = search needs
 
 returns-2 : tie.Need-returns-2
-returns-2 c = c .verdict-on-save .ensures ∙ as-save _ _ _ (c .before .if2 .taken)
-
-verdict-on-read-requires : tie.Need-verdict-on-read-requires
-verdict-on-read-requires c κs =
-    let checking = c .before .before .before .before .before .before .pre in
-    let top-is = c .before .before .before .cycles-in .ensures in
-    (checking, top-is, c .before .if1 .left)
-
-returns-3 : tie.Need-returns-3
-returns-3 c = c .verdict-on-read .ensures ∙ as-read _ _ _ (c .before .if2 .left)
+returns-2 c =
+    let checking = c .before .before .before .before .before .before .before .before .before .pre in
+    let top-is = c .before .before .before .before .before .before .cycles-in .ensures in
+    let fault = c .before .first-fault in
+    let most-is = c .before .before .before .most-of .ensures in
+    c .complete .ensures ∙ judged checking top-is _ _ (fault .result) (fault .ensures) _ (most-is .1)
 
 pub verdict-spec : {M : Type 1} → statement M
 verdict-spec =
@@ -43,7 +47,7 @@ verdict-spec =
     cycles-in-requires
     verdict-on-late-requires
     returns
-    verdict-on-save-requires
-    returns-2
-    verdict-on-read-requires
-    returns-3)
+    most-of-requires
+    first-fault-requires
+    complete-requires
+    returns-2)

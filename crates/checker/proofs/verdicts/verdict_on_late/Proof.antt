@@ -4,7 +4,7 @@ use mathlib.Core.Path.{sym, _∙_}
 use mathlib.Core.Bool.{false≢true}
 use borrow.Author.Tests.{not-true, not-false}
 use native.Mathlib.Omega.{arith}
-use Rattle.checker.proofs.Whole.{few-cycles, large-correct, large-save, large-read, large-fault}
+use Rattle.checker.proofs.Whole.{few-cycles, late-correct, late-valid, late-fault}
 use borrow.Author.Needs.{needs}
 use Rattle.checker.proofs.verdicts.verdict_on_late.Statement.{statement}
 use Rattle.checker.proofs.verdicts.verdict_on_late.Tie as tie
@@ -21,7 +21,16 @@ returns c =
     let top-is = c .before .before .before .before .before .pre .1 in
     let fault = c .before .before .first-fault in
     let valid-is = c .before .is-valid .ensures in
-    large-fault checking top-is _ (fault .result) _ (fault .ensures) (sym valid-is ∙ not-true _ (c .if1 .taken))
+    late-fault checking top-is _ _ (fault .result) (fault .ensures) (sym valid-is ∙ not-true _ (c .if1 .taken))
+
+counted-requires : tie.Need-counted-requires
+counted-requires c κs =
+    let checking = c .before .before .before .before .before .pre .0 in
+    let top-is = c .before .before .before .before .before .pre .1 in
+    let fault = c .before .before .first-fault in
+    let valid-is = c .before .is-valid .ensures in
+    let correct = late-correct checking top-is _ _ (fault .result) (fault .ensures) (sym valid-is ∙ not-false _ (c .if1 .left)) in
+    (few-cycles checking, λ i l. correct .from-one i (omega (arith, checking .same-length)))
 
 returns-2 : tie.Need-returns-2
 returns-2 c =
@@ -30,29 +39,9 @@ returns-2 c =
     let fault = c .before .before .before .first-fault in
     let valid-is = c .before .before .is-valid .ensures in
     let valid = c .before .if1 .left in
-    large-save checking top-is _ (fault .result) _ (fault .ensures) (sym valid-is ∙ not-false _ valid) (c .if2 .taken)
-
-counted-requires : tie.Need-counted-requires
-counted-requires c κs =
-    let checking = c .before .before .before .before .before .before .pre .0 in
-    let top-is = c .before .before .before .before .before .before .pre .1 in
-    let fault = c .before .before .before .first-fault in
-    let valid-is = c .before .before .is-valid .ensures in
-    let valid = c .before .if1 .left in
-    let correct = large-correct checking top-is _ (fault .result) _ (fault .ensures) (sym valid-is ∙ not-false _ valid) in
-    (few-cycles checking, λ i l. correct .from-one i (omega (arith, checking .same-length)))
-
-returns-3 : tie.Need-returns-3
-returns-3 c =
-    let checking = c .before .before .before .before .before .before .before .pre .0 in
-    let top-is = c .before .before .before .before .before .before .before .pre .1 in
-    let fault = c .before .before .before .before .first-fault in
-    let valid-is = c .before .before .before .is-valid .ensures in
-    let valid = c .before .before .if1 .left in
-    let read = c .before .if2 .left in
-    large-read checking top-is _ (fault .result) _ (fault .ensures) (sym valid-is ∙ not-false _ valid) read (c .counted .ensures)
+    late-valid checking top-is _ _ (fault .result) (fault .ensures) (sym valid-is ∙ not-false _ valid) (c .counted .ensures)
 
 pub verdict-on-late-spec : {M : Type 1} → statement M
 verdict-on-late-spec =
     tie.close
-    (tie.spec first-fault-requires is-valid-requires returns returns-2 counted-requires returns-3)
+    (tie.spec first-fault-requires is-valid-requires returns counted-requires returns-2)

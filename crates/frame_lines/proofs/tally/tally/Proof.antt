@@ -1,14 +1,14 @@
--- `ticket::tally::tally` meets its contract.
+-- `frame_lines::tally::tally` meets its contract.
 -- Assumes nothing.
 use Prim.Native.Nat.{_≤_, _-_}
 use mathlib.Core.Path.{_≡_, refl}
 use native.Mathlib.Omega.{arith}
 use denote.Ref.{now}
-use Rattle.ticket.specs.Ticket.{countsUpTo}
-use Rattle.ticket.proofs.Counting.{count-small, count-next}
+use Rattle.frame_lines.specs.Tally.{countsUpTo}
+use Rattle.frame_lines.proofs.Counting.{count-small, count-next}
 use borrow.Author.Needs.{needs}
-use Rattle.ticket.proofs.tally.tally.Statement.{statement}
-use Rattle.ticket.proofs.tally.tally.Tie as tie
+use Rattle.frame_lines.proofs.tally.tally.Statement.{statement}
+use Rattle.frame_lines.proofs.tally.tally.Tie as tie
 
 abbrev Inv-loop : tie.InvT-loop
 Inv-loop card n end count₀ i₀ count i = (i ≤ n) × (count ≡ countsUpTo card i)

@@ -1,11 +1,11 @@
--- `ticket::lines::read_lines` meets its contract.
+-- `frame_lines::read_lines` meets its contract.
 -- Assumes nothing.
 use mathlib.Core.Path.{sym, _∙_}
 use native.Mathlib.Omega.{arith}
-use Rattle.ticket.proofs.Faults.{part-9, part-0, refused-next, all-pass}
+use Rattle.frame_lines.proofs.Faults.{part-9, part-0, refused-next, all-pass}
 use borrow.Author.Needs.{needs}
-use Rattle.ticket.proofs.lines.read_lines.Statement.{statement}
-use Rattle.ticket.proofs.lines.read_lines.Tie as tie
+use Rattle.frame_lines.proofs.read_lines.Statement.{statement}
+use Rattle.frame_lines.proofs.read_lines.Tie as tie
 
 fewer-requires : tie.Need-fewer-requires
 fewer-requires c κs = search needs

@@ -5,7 +5,7 @@ use mathlib.Core.Path.{_≡_}
 use mathlib.Core.List.{List, _++_}
 use lib.ListN.{drop}
 use Rattle.counting.specs.Count.{tabulate}
-use Rattle.ticket.specs.Ticket.{cardAt, lineFault, linesFault}
+use Rattle.frame_lines.specs.Lines.{cardAt, lineFault, linesFault}
 
 -- Of so many lines the first r pass, and the next one, if there is one, does not; their cards are written over the front of `before`.
 pub record ReadTo (s : List ℕ) (cards lines : ℕ) (before : List ℕ) (r : ℕ) (after : List ℕ) : Type 0 where

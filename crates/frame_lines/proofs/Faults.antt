@@ -15,8 +15,8 @@ use Rattle.counting.specs.Count.{tabulate}
 use Rattle.counting.proofs.Bits.{by-cases}
 use Rattle.text.specs.Text.{endByte, digit, digits, number, isLine}
 use Rattle.text.proofs.Digits.{digit-below, line-long, line-end, is-line}
-use Rattle.ticket.specs.Ticket.{lineBytes, lineDigits, cardAt, lineFault, linesFault, partFault}
-use Rattle.ticket.specs.Lines.{ReadTo}
+use Rattle.frame_lines.specs.Lines.{lineBytes, lineDigits, cardAt, lineFault, linesFault, partFault}
+use Rattle.frame_lines.specs.Reading.{ReadTo}
 
 -- a line of 2 digits, byte by byte
 module _ (s : List ℕ) (at : ℕ) where

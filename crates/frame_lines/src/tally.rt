@@ -4,11 +4,11 @@ ghost use Prim.Native.Nat.{ℕ, _≤_, _<_};
 ghost use lib.ListN.{length};
 ghost use Rattle.counting.specs.Frames.{cardOf};
 ghost use Rattle.header.specs.Limits.{maxCards, maxFrames};
-ghost use Rattle.ticket.specs.Ticket.{countsUpTo};
+ghost use Rattle.frame_lines.specs.Tally.{countsUpTo};
 use header::limits;
 
 // Counts the first n entries of a list of cards.
-pub(crate) fn tally(card: &[u8], n: u16) -> [u16; limits::CARDS]
+pub fn tally(card: &[u8], n: u16) -> [u16; limits::CARDS]
     requires { ⌜ (n ≤ length (now card)) × (n ≤ maxFrames) × ((i : ℕ) → i < n → cardOf (now card) i < maxCards) ⌝ }
     ensures { λ r. ⌜ r ≡ countsUpTo (now (card .entry)) n ⌝ }
 {

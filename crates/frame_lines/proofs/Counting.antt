@@ -13,7 +13,7 @@ use Rattle.counting.specs.Frames.{cardOf}
 use Rattle.counting.proofs.Lists.{getD-tabulate, tabulate-cong, set-tabulate}
 use Rattle.counting.proofs.Sums.{sum-cong, howMany-le}
 use Rattle.header.specs.Limits.{maxCards}
-use Rattle.ticket.specs.Ticket.{countsUpTo}
+use Rattle.frame_lines.specs.Tally.{countsUpTo}
 
 -- how many of the first i frames card c has
 abbrev countOf : List ℕ → ℕ → ℕ → ℕ

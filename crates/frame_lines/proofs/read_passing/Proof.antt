@@ -1,4 +1,4 @@
--- `ticket::lines::read_passing` meets its contract.
+-- `frame_lines::read_passing` meets its contract.
 -- Assumes nothing.
 use Prim.Native.Nat.{_*_, _-_, _≤_}
 use mathlib.Core.Path.{_≡_, refl}
@@ -8,11 +8,11 @@ use denote.Ref.{now}
 use lib.ListN.{length, drop, length-set}
 use Rattle.counting.specs.Count.{tabulate}
 use Rattle.counting.proofs.Lists.{fill}
-use Rattle.ticket.specs.Ticket.{lineBytes, cardAt, linesFault}
-use Rattle.ticket.proofs.Faults.{too-high, other-end, is-card, passes}
+use Rattle.frame_lines.specs.Lines.{lineBytes, cardAt, linesFault}
+use Rattle.frame_lines.proofs.Faults.{too-high, other-end, is-card, passes}
 use borrow.Author.Needs.{needs}
-use Rattle.ticket.proofs.lines.read_passing.Statement.{statement}
-use Rattle.ticket.proofs.lines.read_passing.Tie as tie
+use Rattle.frame_lines.proofs.read_passing.Statement.{statement}
+use Rattle.frame_lines.proofs.read_passing.Tie as tie
 
 abbrev Inv-loop : tie.InvT-loop
 Inv-loop value s cards lines card₀ below at₀ i₀ card at i =

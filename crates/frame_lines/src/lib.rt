@@ -1,4 +1,4 @@
-// The frame lines of a ticket: refusals 7 to 9.
+// The frame lines of a ticket: each frame's card, the refusals 7 to 9, and how many frames each card has.
 ghost use mathlib.Core.Path.{_≡_};
 ghost use mathlib.Core.List.{_++_};
 ghost use Prim.Native.Nat.{_+_, _*_, _≤_, min};
@@ -6,8 +6,10 @@ ghost use lib.ListN.{length, drop};
 ghost use Rattle.counting.specs.Count.{tabulate};
 ghost use Rattle.text.specs.Text.{digit, digitValues};
 ghost use Rattle.header.specs.Limits.{maxFrames};
-ghost use Rattle.ticket.specs.Ticket.{lineBytes, cardAt, partFault};
-ghost use Rattle.ticket.specs.Lines.{ReadTo};
+ghost use Rattle.frame_lines.specs.Lines.{lineBytes, cardAt, partFault};
+ghost use Rattle.frame_lines.specs.Reading.{ReadTo};
+
+pub mod tally;
 
 // The value of two digits, 255 or more where one of them is none.
 fn pair(value: &[u8; 256], high: u8, low: u8) -> u16
@@ -51,7 +53,7 @@ fn fewer(a: usize, b: usize) -> usize
 
 // Reads the part of a ticket that starts after its header, which should be one line for each frame, and writes the frames' cards to the
 // front of `card`. Returns the refusal, 0 for none.
-pub(crate) fn read_lines(value: &[u8; 256], s: &[u8], cards: u8, frames: u16, card: &mut [u8]) -> u8
+pub fn read_lines(value: &[u8; 256], s: &[u8], cards: u8, frames: u16, card: &mut [u8]) -> u8
     requires { ⌜ (now value ≡ digitValues) × (frames ≤ length (now card)) × (frames ≤ maxFrames) ⌝ }
     ensures { λ r. ⌜ (r ≡ partFault (now (s .entry)) cards frames)
         × (r ≡ 0 → now (card .exit) ≡ tabulate frames (cardAt (now (s .entry))) ++ drop frames (now (card .entry))) ⌝ }

@@ -1,0 +1,2 @@
+pub mod Faults
+pub mod Counting
