@@ -47,9 +47,8 @@ pub fn check(ticket: &[u8], plan: &[u16]) -> Verdict
     ensures numbers { λ r. ⌜ numbersOf r ≡ numbersOf (checkOf (parse (now (ticket .entry))) (now (plan .entry))) ⌝ }
     ensures exact { λ r. ⌜ Exact (now (ticket .entry)) (now (plan .entry)) (numbersOf r .verdict) (numbersOf r .position .0) ⌝ }
 {
-    let read = ticket::parse(ticket);
-    let answer = read.answer;
-    let card = read.card;
+    let mut card = [0u8; limits::FRAMES];
+    let answer = ticket::read(ticket, &mut card);
     match answer {
         header::Answer::Refused(number) => Verdict::Refused(number),
         header::Answer::Accepted(h) => check_list(h, &card, plan),

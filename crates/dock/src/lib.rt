@@ -101,9 +101,8 @@ pub fn start(ticket: &[u8], memory: &mut [u8]) -> Driven
     ensures answer { λ r. ⌜ r ≡ startOf (parse (now (ticket .entry))) (length (now (memory .entry))) ⌝ }
     ensures memory { λ r. ⌜ now (memory .exit) ≡ memoryStarted (parse (now (ticket .entry))) (now (memory .entry)) ⌝ }
 {
-    let read = ticket::parse(ticket);
-    let answer = read.answer;
-    let card = read.card;
+    let mut card = [0u8; limits::FRAMES];
+    let answer = ticket::read(ticket, &mut card);
     match answer {
         header::Answer::Refused(number) => refused(number),
         header::Answer::Accepted(h) => start_list(h, &card, memory),

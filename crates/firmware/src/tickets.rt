@@ -60,9 +60,8 @@ fn ticket_answer(answer: header::Answer) -> TicketAnswer
 pub extern "C" fn dockplan_parse(ticket: &[u8]) -> TicketAnswer
     ensures { λ r. ⌜ r ≡ ticketAnswer (numbersIn (parse (now (ticket .entry)))) ⌝ }
 {
-    let read = ticket::parse(ticket);
-    let answer = read.answer;
-    ticket_answer(answer)
+    let mut card = [0u8; limits::FRAMES];
+    ticket_answer(ticket::read(ticket, &mut card))
 }
 
 #[no_mangle]

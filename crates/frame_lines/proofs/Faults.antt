@@ -7,15 +7,16 @@ use mathlib.Core.List.{List, _++_}
 use native.Mathlib.Omega.{arith}
 use native.Mathlib.Numerals.{add-one}
 use native.Mathlib.Nat.{add-zero}
-use native.Mathlib.Decide.{decLt}
+use native.Mathlib.Decide.{decLt, ℕ-discrete}
 use lib.ListN.{length, drop, getD}
-use lib.Dec.{ltb}
+use lib.Dec.{eqb, ltb}
 use borrow.Author.Tests.{lt-ltb, le-ltb, ltb-true, eq-eqb, ne-eqb}
-use Rattle.counting.specs.Count.{tabulate}
+use Rattle.counting.specs.Count.{bit, tabulate}
 use Rattle.counting.proofs.Bits.{by-cases}
+use Rattle.counting.proofs.Sums.{sum-cong, all-below, howMany-le}
 use Rattle.text.specs.Text.{endByte, digit, digits, number, isLine}
 use Rattle.text.proofs.Digits.{digit-below, line-long, line-end, is-line}
-use Rattle.frame_lines.specs.Lines.{lineBytes, lineDigits, cardAt, lineFault, linesFault, partFault}
+use Rattle.frame_lines.specs.Lines.{lineBytes, lineDigits, cardAt, lineFault, linesFault, partFault, linesPassing, cardsRead}
 use Rattle.frame_lines.specs.Reading.{ReadTo}
 
 -- a line of 2 digits, byte by byte
@@ -82,6 +83,35 @@ module _ (s : List ℕ) (cards : ℕ) where
         | no k ↦ (let m : i ≡ n = omega arith in rw m at (next-line i z ∙ q))
       ]
 
+  -- no refusal in the first n lines, so none before
+  without : (n : ℕ) → linesFault s cards (suc n) ≡ 0 → linesFault s cards n ≡ 0
+  without n z = elim (ℕ-discrete (linesFault s cards n) 0) [ yes e ↦ e | no k ↦ absurd (k (sym (stays n (linesFault s cards n) refl k) ∙ z)) ]
+
+  none-before : (n i : ℕ) → i ≤ n → linesFault s cards n ≡ 0 → linesFault s cards i ≡ 0
+  none-before zero i l z = let e : i ≡ 0 = omega arith in rw e z
+  none-before (suc n) i l z =
+      elim (ℕ-discrete i (suc n)) [ yes e ↦ rw e z | no k ↦ none-before n i (omega arith) (without n z) ]
+
+  -- r lines pass and the next does not, if there is one
+  pub passing-are :
+      (n r : ℕ) → r ≤ n → linesFault s cards r ≡ 0 → (r < n → lineFault s cards r ≡ 0 → ⊥) → linesPassing s cards n ≡ r
+  unfolding linesPassing
+  passing-are n r l z stops =
+      sum-cong n (λ i. bit (eqb (linesFault s cards (suc i)) 0)) (λ i. bit (ltb i r))
+      (λ i k.
+      elim (decLt i r) [
+        | yes h ↦ rw (lt-ltb i r h, none-before r (suc i) (omega arith) z)
+        | no h ↦
+            (let n : linesFault s cards (suc i) ≡ 0 → ⊥ =
+            λ e. stops (omega arith) (sym (next-line r z) ∙ none-before (suc i) (suc r) (omega arith) e) in
+            rw (le-ltb i r (omega arith), ne-eqb (linesFault s cards (suc i)) 0 n))
+      ])
+      ∙ all-below n r l
+
+  pub passing-few : (n : ℕ) → linesPassing s cards n ≤ n
+  unfolding linesPassing
+  passing-few n = howMany-le n (λ i. eqb (linesFault s cards (suc i)) 0)
+
   pub no-fault : (n : ℕ) → ((i : ℕ) → i < n → lineFault s cards i ≡ 0) → linesFault s cards n ≡ 0
   unfolding linesFault
   no-fault zero h = refl
@@ -99,6 +129,14 @@ module _ (s : List ℕ) (cards : ℕ) where
   pub part-0 : (n : ℕ) → linesFault s cards n ≡ 0 → length s ≤ lineBytes * n → partFault s cards n ≡ 0
   unfolding partFault
   part-0 n e h = rw (e, le-ltb _ _ h)
+
+  -- a part without a refusal: every line's card is read
+  pub all-read : (n : ℕ) (memory : List ℕ) → partFault s cards n ≡ 0 → cardsRead s cards n memory ≡ tabulate n (cardAt s) ++ drop n memory
+  unfolding cardsRead
+  all-read n memory z =
+      let none : linesFault s cards n ≡ 0 =
+      elim (ℕ-discrete (linesFault s cards n) 0) [ yes e ↦ e | no k ↦ absurd (k (sym (part-fault n (linesFault s cards n) refl k) ∙ z)) ] in
+      rw (passing-are n n (omega arith) none (λ l. absurd (omega arith)))
 
   pub refuses : (n i e : ℕ) → i < n → linesFault s cards i ≡ 0 → lineFault s cards i ≡ e → (e ≡ 0 → ⊥) → partFault s cards n ≡ e
   refuses n i e l z q h = part-fault n e (first-fault n i e l z q h) h
@@ -144,12 +182,16 @@ module _
       ]
 
   pub refused-next :
-      (b : Bool) → isLine s (lineBytes * r) lineDigits ≡ b → r < n → (notPassing b ≡ partFault s cards n) × (notPassing b ≡ 0 → ⊥)
+      (b : Bool) → isLine s (lineBytes * r) lineDigits ≡ b → r < n → notPassing b ≡ partFault s cards n
   refused-next b f l =
       let g : lineFault s cards r ≡ notPassing b = rw f at (fault-of s cards r (not-next l)) in
-      let h : notPassing b ≡ 0 → ⊥ = λ z. not-next l (g ∙ z) in
-      (sym (refuses s cards n r (notPassing b) l (q .pass) g h), h)
+      sym (refuses s cards n r (notPassing b) l (q .pass) g (λ z. not-next l (g ∙ z)))
 
   -- all n pass
-  pub all-pass : n ≤ r → (linesFault s cards n ≡ 0) × (after ≡ tabulate n (cardAt s) ++ drop n before)
-  all-pass l = let m : r ≡ n = omega (arith, q .up-to) in (rw m at (q .pass), rw m at (q .filled))
+  pub all-pass : n ≤ r → linesFault s cards n ≡ 0
+  all-pass l = let m : r ≡ n = omega (arith, q .up-to) in rw m at (q .pass)
+
+  -- what memory has then
+  pub memory-read : after ≡ cardsRead s cards n before
+  unfolding cardsRead
+  memory-read = rw (passing-are s cards n r (omega (arith, q .up-to)) (q .pass) not-next) (q .filled)

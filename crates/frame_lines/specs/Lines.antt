@@ -5,9 +5,10 @@
 -- Assumes nothing.
 use Prim.Native.Nat.{ℕ, zero, suc, _+_, _*_}
 use mathlib.Core.Bool.{cond}
-use mathlib.Core.List.{List}
+use mathlib.Core.List.{List, _++_}
 use lib.Dec.{eqb, ltb}
-use lib.ListN.{length}
+use lib.ListN.{length, drop}
+use Rattle.counting.specs.Count.{howMany, tabulate}
 use Rattle.text.specs.Text.{number, isLine}
 
 -- "One line of 2 digits follows for each frame: its card". The width of a line is said here alone.
@@ -39,3 +40,11 @@ module _ (s : List ℕ) where
   -- Refusals 7 to 9 of a part that should be n lines; 0 for none.
   unfoldable pub partFault : ℕ → ℕ → ℕ
   partFault cards n = orElse (linesFault cards n) (cond (ltb (lineBytes * n) (length s)) 9 0)
+
+  -- how many of n lines pass before the first that does not
+  unfoldable pub linesPassing : ℕ → ℕ → ℕ
+  linesPassing cards n = howMany n (λ i. eqb (linesFault cards (suc i)) 0)
+
+  -- lent memory with the cards of these lines over its front
+  unfoldable pub cardsRead : ℕ → ℕ → List ℕ → List ℕ
+  cardsRead cards n memory = tabulate (linesPassing cards n) cardAt ++ drop (linesPassing cards n) memory

@@ -1,12 +1,10 @@
 // The frame lines of a ticket: each frame's card, the refusals 7 to 9, and how many frames each card has.
 ghost use mathlib.Core.Path.{_≡_};
-ghost use mathlib.Core.List.{_++_};
 ghost use Prim.Native.Nat.{_+_, _*_, _≤_, min};
-ghost use lib.ListN.{length, drop};
-ghost use Rattle.counting.specs.Count.{tabulate};
+ghost use lib.ListN.{length};
 ghost use Rattle.text.specs.Text.{digit, digitValues};
 ghost use Rattle.header.specs.Limits.{maxFrames};
-ghost use Rattle.frame_lines.specs.Lines.{lineBytes, cardAt, partFault};
+ghost use Rattle.frame_lines.specs.Lines.{lineBytes, partFault, cardsRead};
 ghost use Rattle.frame_lines.specs.Reading.{ReadTo};
 
 pub mod tally;
@@ -51,12 +49,11 @@ fn fewer(a: usize, b: usize) -> usize
     if a < b { a } else { b }
 }
 
-// Reads the part of a ticket that starts after its header, which should be one line for each frame, and writes the frames' cards to the
-// front of `card`. Returns the refusal, 0 for none.
+// Reads the part of a ticket that starts after its header, which should be one line for each frame, and writes the cards of the lines that
+// pass to the front of `card`. Returns the refusal, 0 for none.
 pub fn read_lines(value: &[u8; 256], s: &[u8], cards: u8, frames: u16, card: &mut [u8]) -> u8
     requires { ⌜ (now value ≡ digitValues) × (frames ≤ length (now card)) × (frames ≤ maxFrames) ⌝ }
-    ensures { λ r. ⌜ (r ≡ partFault (now (s .entry)) cards frames)
-        × (r ≡ 0 → now (card .exit) ≡ tabulate frames (cardAt (now (s .entry))) ++ drop frames (now (card .entry))) ⌝ }
+    ensures { λ r. ⌜ (r ≡ partFault (now (s .entry)) cards frames) × (now (card .exit) ≡ cardsRead (now (s .entry)) cards frames (now (card .entry))) ⌝ }
 {
     let n = frames as usize;
     let whole = s.len() / 3;

@@ -12,6 +12,7 @@ mod cycle;
 
 use counting::Cycle;
 use header::Header;
+use header::limits;
 
 // What a run comes to: all frames handed over, with the cycles needed for it, or not.
 pub enum Outcome {
@@ -54,9 +55,8 @@ pub fn run_plan(ticket: &[u8], plan: &[u16]) -> Answer
     ensures answer { λ r. ⌜ r ≡ ranOf (parse (now (ticket .entry))) (now (plan .entry)) ⌝ }
     ensures numbers { λ r. ⌜ numbersOf r ≡ numbersOf (ranOf (parse (now (ticket .entry))) (now (plan .entry))) ⌝ }
 {
-    let read = ticket::parse(ticket);
-    let answer = read.answer;
-    let mut card = read.card;
+    let mut card = [0u8; limits::FRAMES];
+    let answer = ticket::read(ticket, &mut card);
     match answer {
         header::Answer::Refused(number) => Answer::Refused(number),
         header::Answer::Accepted(h) => run_list(h, plan, &mut card),

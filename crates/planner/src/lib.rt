@@ -11,6 +11,7 @@ mod modes;
 
 use counting::Cycle;
 use header::Header;
+use header::limits;
 
 // A plan of T cycles, or the number of a refusal.
 pub enum Answer {
@@ -38,9 +39,8 @@ pub fn plan(ticket: &[u8], out: &mut [u16]) -> Answer
     ensures numbers { λ r. ⌜ numbersOf r ≡ numbersOf (planOf (parse (now (ticket .entry))) (length (now (out .entry)))) ⌝ }
     ensures demand { λ r. ⌜ Demand3 (now (ticket .entry)) (numbersOf r .refusal) (numbersOf r .cycles .0) (now (out .exit)) ⌝ }
 {
-    let read = ticket::parse(ticket);
-    let answer = read.answer;
-    let card = read.card;
+    let mut card = [0u8; limits::FRAMES];
+    let answer = ticket::read(ticket, &mut card);
     match answer {
         header::Answer::Refused(number) => Answer::Refused(number),
         header::Answer::Accepted(h) => plan_list(h, &card, out),

@@ -4,10 +4,10 @@ use Prim.Native.Nat.{ℕ, _+_, _-_, _≤_, _<_}
 use mathlib.Core.Path.{_≡_, refl, sym, ap, _∙_}
 use mathlib.Core.List.{List, [], _++_}
 use native.Mathlib.Omega.{arith}
-use lib.ListN.{length, take, drop, replicate, length-append, length-drop, List·getD-append}
+use lib.ListN.{length, take, drop, replicate, length-append, length-drop, take-append-drop, List·getD-append}
 use lib.Seq.{take-at, length-take-le}
-use borrow.Author.Tests.{ne-eqb, lt-ltb, le-ltb, ltb-true}
-use lib.Dec.{ltb}
+use borrow.Author.Tests.{eqb-true, ne-eqb, lt-ltb, le-ltb, ltb-true}
+use lib.Dec.{eqb, ltb}
 use Rattle.counting.specs.Count.{tabulate}
 use Rattle.counting.specs.Frames.{cardOf}
 use Rattle.counting.proofs.Bits.{by-cases}
@@ -18,16 +18,16 @@ use Rattle.header.specs.Numbers.{numbersOf}
 use Rattle.header.specs.Limits.{maxCards, maxFrames}
 use Rattle.ticket.specs.Grounds.{Fits, ReadAs}
 use Rattle.ticket.specs.Part.{address}
-use Rattle.frame_lines.specs.Lines.{cardAt, partFault}
 use Rattle.frame_lines.specs.Tally.{countsUpTo}
-use Rattle.ticket.specs.Ticket.{Parsed, accepted, refused, parse, zeros, ticketOf, numbersIn, countsOf}
-use Rattle.frame_lines.specs.Lines.{lineBytes, lineDigits}
+use Rattle.ticket.specs.Ticket.{Parsed, accepted, refused, parsePart, parse, answerIn, partInto, readInto, zeros, ticketOf, numbersIn, countsOf}
+use Rattle.frame_lines.specs.Lines.{lineBytes, lineDigits, cardAt, partFault, linesPassing, cardsRead}
 use Rattle.ticket.specs.Ticket.{lineRefusalOf, lineStart, lineIn, lineOf, linePlace}
 use Rattle.ticket.proofs.Accepted.{as-many, fits, line-inside}
 use Rattle.frame_lines.proofs.Counting.{counts-front}
+use Rattle.frame_lines.proofs.Faults.{all-read, passing-few}
 use Rattle.ticket.proofs.Reader.{header-passes, header-read, refusal-number}
 use Rattle.header.specs.declared.Header.{Header}
-use Rattle.ticket.specs.declared.Ticket.{Ticket}
+use Rattle.header.specs.declared.Answer.{Answer}
 use Rattle.header.specs.declared.Answer.the-variants.{Accepted, Refused}
 
 module _ (t : List ℕ) where
@@ -38,46 +38,100 @@ module _ (t : List ℕ) where
     pub few-frames : h .frames ≤ maxFrames
     few-frames = rw (header-read t h e) (header-passes t h e .frames)
 
-    pub part-refused :
-        (k : ℕ) → k ≡ partFault (take (length t - headerBytes) (drop headerBytes t)) (h .cards) (h .frames) → (k ≡ 0 → ⊥)
-        → parse t ≡ refused k
-    unfolding parse
-    part-refused k q n = let q : k ≡ partFault (drop headerBytes t) (h .cards) (h .frames) = rw from-place at q in rw (e, ← q, ne-eqb _ _ n)
+    -- what the frame lines say
+    module _ {k : ℕ} (q : k ≡ partFault (take (length t - headerBytes) (drop headerBytes t)) (h .cards) (h .frames)) where
+      fault-is : k ≡ partFault (drop headerBytes t) (h .cards) (h .frames)
+      fault-is = rw from-place at q
 
-    pub read :
-        (card : List ℕ) → 0 ≡ partFault (take (length t - headerBytes) (drop headerBytes t)) (h .cards) (h .frames)
-        → card ≡ tabulate (h .frames) (cardAt (take (length t - headerBytes) (drop headerBytes t))) ++ drop (h .frames) (replicate maxFrames 0)
-        → record { answer = Accepted h; card = card } ≡ ticketOf (parse t)
-    unfolding parse zeros
-    read card q c =
-        let q : partFault (drop headerBytes t) (h .cards) (h .frames) ≡ 0 = sym (rw from-place at q) in
-        let c : card ≡ tabulate (h .frames) (cardAt (drop headerBytes t)) ++ replicate (maxFrames - h .frames) 0 = rw (from-place, drop-replicate) at c in
-        rw (e, q, length-tabulate, ← c)
+      pub part-refused : (k ≡ 0 → ⊥) → Refused k ≡ answerIn (parse t)
+      unfolding parse
+      part-refused n = rw (e, ← fault-is, ne-eqb k 0 n)
 
--- from the answer of `parse` to what it parsed
-answer-refused : (p : Parsed) (k : ℕ) → ticketOf p .answer ≡ Refused k → p ≡ refused k
+      pub part-accepted : k ≡ 0 → Accepted h ≡ answerIn (parse t)
+      unfolding parse
+      part-accepted z = rw (e, ← fault-is, z)
+
+    pub part-into :
+        (memory : List ℕ) {after : List ℕ} → after ≡ cardsRead (take (length t - headerBytes) (drop headerBytes t)) (h .cards) (h .frames) memory
+        → after ≡ readInto t memory
+    unfolding readInto
+    part-into memory q = rw e (rw from-place at q)
+
+  pub header-into : (k : ℕ) (memory : List ℕ) → heading t ≡ Refused k → memory ≡ readInto t memory
+  unfolding readInto
+  header-into k memory e = rw e
+
+-- memory after a text was read into it
+into-part :
+    (x : Answer) (s memory : List ℕ) (h : Header) (cards : List ℕ) → parsePart x s ≡ accepted h cards
+    → partInto x s memory ≡ cards ++ drop (h .frames) memory
+into-part (Refused k) s memory h cards e = let z : _≡_ {A = ℕ} 0 1 = cc in absurd (omega arith)
+into-part (Accepted g) s memory h cards e =
+    by-cases (eqb (partFault s (g .cards) (g .frames)) 0)
+    (λ z.
+    let q : accepted g (tabulate (g .frames) (cardAt s)) ≡ accepted h cards = rw z at e in
+    let g-is : g ≡ h = cc in
+    let cards-are : tabulate (g .frames) (cardAt s) ≡ cards = cc in
+    rw (all-read s (g .cards) (g .frames) memory (eqb-true _ _ z), cards-are, g-is))
+    (λ z.
+    let q : refused (partFault s (g .cards) (g .frames)) ≡ accepted h cards = rw z at e in
+    let w : _≡_ {A = ℕ} 0 1 = cc in
+    absurd (omega arith))
+
+long-part : (x : Answer) (s memory : List ℕ) → ((h : Header) → x ≡ Accepted h → h .frames ≤ length memory) → length (partInto x s memory) ≡ length memory
+unfolding cardsRead
+long-part (Refused k) s memory few = refl
+long-part (Accepted h) s memory few =
+    omega (
+      arith,
+      length-append (tabulate (linesPassing s (h .cards) (h .frames)) (cardAt s)) (drop (linesPassing s (h .cards) (h .frames)) memory),
+      length-tabulate (linesPassing s (h .cards) (h .frames)) (cardAt s),
+      length-drop (linesPassing s (h .cards) (h .frames)) memory,
+      passing-few s (h .cards) (h .frames),
+      few h refl,
+    )
+
+module _ (t memory : List ℕ) where
+  pub into-accepted : (h : Header) (cards : List ℕ) → parse t ≡ accepted h cards → readInto t memory ≡ cards ++ drop (h .frames) memory
+  unfolding parse readInto
+  into-accepted h cards e = into-part (heading t) (drop headerBytes t) memory h cards e
+
+  into-long : maxFrames ≤ length memory → length (readInto t memory) ≡ length memory
+  unfolding readInto
+  into-long l = long-part (heading t) (drop headerBytes t) memory (λ h e. omega (arith, few-frames t h e))
+
+into-zeros :
+    (t : List ℕ) (h : Header) (cards : List ℕ) → parse t ≡ accepted h cards
+    → readInto t (replicate maxFrames 0) ≡ cards ++ replicate (maxFrames - length cards) 0
+into-zeros t h cards e =
+    into-accepted t (replicate maxFrames 0) h cards e
+    ∙ ap (λ k. cards ++ drop k (replicate maxFrames 0)) (sym (as-many t h cards e))
+    ∙ ap (λ rest. cards ++ rest) (drop-replicate maxFrames (length cards) 0)
+
+-- from the answer to what the text is read as
+answer-refused : (p : Parsed) (k : ℕ) → answerIn p ≡ Refused k → p ≡ refused k
 answer-refused (accepted h cards) k e = let z : _≡_ {A = ℕ} 0 1 = cc in absurd (omega arith)
 answer-refused (refused j) k e = let q : j ≡ k = cc in ap refused q
 
-answer-accepted : (p : Parsed) (h : Header) → ticketOf p .answer ≡ Accepted h → (cards : List ℕ) × (p ≡ accepted h cards)
+answer-accepted : (p : Parsed) (h : Header) → answerIn p ≡ Accepted h → (cards : List ℕ) × (p ≡ accepted h cards)
 answer-accepted (accepted g cards) h e = let q : g ≡ h = cc in (cards, ap (λ (x : Header). accepted x cards) q)
 answer-accepted (refused j) h e = let z : _≡_ {A = ℕ} 0 1 = cc in absurd (omega arith)
 
-module _ (t : List ℕ) (x : Ticket) (e : x ≡ ticketOf (parse t)) where
-  pub was-refused : (k : ℕ) → x .answer ≡ Refused k → parse t ≡ refused k
-  was-refused k q = answer-refused (parse t) k (ap (λ (y : Ticket). y .answer) (sym e) ∙ q)
+module _ (t : List ℕ) (a : Answer) (e : a ≡ answerIn (parse t)) where
+  pub was-refused : (k : ℕ) → a ≡ Refused k → parse t ≡ refused k
+  was-refused k q = answer-refused (parse t) k (sym e ∙ q)
 
-  pub was-accepted : (h : Header) → x .answer ≡ Accepted h → (cards : List ℕ) × (parse t ≡ accepted h cards)
-  was-accepted h q = answer-accepted (parse t) h (ap (λ (y : Ticket). y .answer) (sym e) ∙ q)
+  pub was-accepted : (h : Header) → a ≡ Accepted h → (cards : List ℕ) × (parse t ≡ accepted h cards)
+  was-accepted h q = answer-accepted (parse t) h (sym e ∙ q)
 
   -- the number beside a line
-  pub number-refused : (k p : ℕ) → x .answer ≡ Refused k → k ≡ lineRefusalOf (parse t) p
+  pub number-refused : (k p : ℕ) → a ≡ Refused k → k ≡ lineRefusalOf (parse t) p
   number-refused k p q = rw (was-refused k q)
 
-  pub below : (h : Header) (p : ℕ) → x .answer ≡ Accepted h → p < h .frames → 0 ≡ lineRefusalOf (parse t) p
+  pub below : (h : Header) (p : ℕ) → a ≡ Accepted h → p < h .frames → 0 ≡ lineRefusalOf (parse t) p
   below h p q l = let r = was-accepted h q in rw (r .1, lt-ltb p (length (r .0)) (rw (as-many t h (r .0) (r .1)) l))
 
-  pub not-below : (h : Header) (p : ℕ) → x .answer ≡ Accepted h → h .frames ≤ p → 16 ≡ lineRefusalOf (parse t) p
+  pub not-below : (h : Header) (p : ℕ) → a ≡ Accepted h → h .frames ≤ p → 16 ≡ lineRefusalOf (parse t) p
   not-below h p q l = let r = was-accepted h q in rw (r .1, le-ltb p (length (r .0)) (rw (as-many t h (r .0) (r .1)) l))
 
 -- where a part stands that begins at byte i of a slice; at byte 0 it stands where the slice does
@@ -141,62 +195,62 @@ module _ (h : Header) (cards rest card : List ℕ) (f : Fits h cards) (a : card 
   pub tally-gives : countsUpTo card (h .frames) ≡ countsUpTo cards (length cards)
   tally-gives = rw (a, ← f .frames) (counts-front cards rest)
 
--- what `parse` answered, taken apart
-module _ (t : List ℕ) (x : Ticket) (e : x ≡ ticketOf (parse t)) where
-  pub counts-refused : (k : ℕ) → x .answer ≡ Refused k → replicate maxCards 0 ≡ countsOf (parse t)
-  unfolding zeros
-  counts-refused k q = rw (was-refused t x e k q)
+-- what a call goes on with, and the counts
+module _ (t memory after : List ℕ) (a : Answer) (e : a ≡ answerIn (parse t)) (m : after ≡ readInto t memory) (l : length memory ≡ maxFrames) where
+  front : (h : Header) (cards : List ℕ) → parse t ≡ accepted h cards → take (h .frames) after ≡ cards
+  front h cards p =
+      ap (take (h .frames)) (m ∙ into-accepted t memory h cards p)
+      ∙ take-at cards (drop (h .frames) memory) (h .frames) (as-many t h cards p)
 
-  -- what an accepted answer shows: the cards, that they fit, and where they stand
-  pub record Shown (h : Header) : Type 0 where
-    pub cards : List ℕ
-    pub parsed : parse t ≡ accepted h cards
-    pub fitting : Fits h cards
-    pub array : x .card ≡ cards ++ zeros (maxFrames - length cards)
-
-  pub shown : (h : Header) → x .answer ≡ Accepted h → Shown h
-  shown h q =
-      let r = was-accepted t x e h q in
+  pub reads : ReadAs t a after
+  reads =
       record {
-        cards = r .0;
-        parsed = r .1;
-        fitting = fits t h (r .0) (r .1);
-        array = ap (λ (y : Ticket). y .card) e ∙ rw (r .1);
+        long = ap length m ∙ into-long t memory (omega arith) ∙ l;
+        refusal = was-refused t a e;
+        list = λ h q. let p = was-accepted t a e h q in rw (front h (p .0) (p .1)) (p .1);
+        fits = λ h q. let p = was-accepted t a e h q in rw (front h (p .0) (p .1)) (fits t h (p .0) (p .1));
       }
 
-  module _ (h : Header) (q : x .answer ≡ Accepted h) where
-    pub counts-asked : (h .frames ≤ length (x .card)) × (h .frames ≤ maxFrames) × ((i : ℕ) → i < h .frames → cardOf (x .card) i < maxCards)
-    counts-asked = let s = shown h q in tally-asks h (s .cards) (zeros _) (x .card) (s .fitting) (s .array)
+module _ (t memory : List ℕ) (a : Answer) (r : ReadAs t a memory) where
+  pub counts-refused : (k : ℕ) → a ≡ Refused k → replicate maxCards 0 ≡ countsOf (parse t)
+  unfolding zeros
+  counts-refused k q = rw (r .refusal k q)
 
-    pub counts-given : countsUpTo (x .card) (h .frames) ≡ countsOf (parse t)
+  module _ (h : Header) (q : a ≡ Accepted h) where
+    parts : memory ≡ take (h .frames) memory ++ drop (h .frames) memory
+    parts = sym (take-append-drop (h .frames) memory)
+
+    pub counts-asked : (h .frames ≤ length memory) × (h .frames ≤ maxFrames) × ((i : ℕ) → i < h .frames → cardOf memory i < maxCards)
+    counts-asked = tally-asks h (take (h .frames) memory) (drop (h .frames) memory) memory (r .fits h q) parts
+
+    pub counts-given : countsUpTo memory (h .frames) ≡ countsOf (parse t)
     counts-given =
-        let s = shown h q in
-        tally-gives h (s .cards) (zeros _) (x .card) (s .fitting) (s .array) ∙ sym (ap countsOf (s .parsed))
+        tally-gives h (take (h .frames) memory) (drop (h .frames) memory) memory (r .fits h q) parts ∙ sym (ap countsOf (r .list h q))
 
-    -- the front of the array is the list
-    front : take (h .frames) (x .card) ≡ shown h q .cards
-    front =
-        let s = shown h q in
-        ap (take (h .frames)) (s .array) ∙ take-at (s .cards) (zeros (maxFrames - length (s .cards))) (h .frames) (s .fitting .frames)
-
-    list-fits : Fits h (take (h .frames) (x .card))
-    list-fits = rw front (shown h q .fitting)
-
-    list-read : parse t ≡ accepted h (take (h .frames) (x .card))
-    list-read = rw front (shown h q .parsed)
-
--- the three clauses of `parse`
-same-numbers : (p : Parsed) → numbersOf (ticketOf p .answer) ≡ numbersIn p
+-- the answer in numbers
+same-numbers : (p : Parsed) → numbersOf (answerIn p) ≡ numbersIn p
 same-numbers (accepted h cards) = refl
 same-numbers (refused k) = refl
 
+-- the clauses of `read`
 pub contract :
-    (t : List ℕ) (r : Ticket) → r ≡ ticketOf (parse t)
-    → (r ≡ ticketOf (parse t)) × ((numbersOf (r .answer) ≡ numbersIn (parse t)) × ReadAs t r)
-contract t r e = (
-  e,
-  (
-    ap (λ (x : Ticket). numbersOf (x .answer)) e ∙ same-numbers (parse t),
-    record { refusal = was-refused t r e; list = list-read t r e; fits = list-fits t r e },
-  ),
-)
+    (t memory after : List ℕ) (a : Answer) → a ≡ answerIn (parse t) → after ≡ readInto t memory → length memory ≡ maxFrames
+    → (a ≡ answerIn (parse t)) × ((numbersOf a ≡ numbersIn (parse t)) × ((after ≡ readInto t memory) × ReadAs t a after))
+contract t memory after a e m l = (e, (ap numbersOf e ∙ same-numbers (parse t), (m, reads t memory after a e m l)))
+
+-- the clauses of `parse`
+module _ (t : List ℕ) (a : Answer) (e : a ≡ answerIn (parse t)) where
+  pub parsed-refused :
+      (k : ℕ) → a ≡ Refused k
+      → (record { answer = Refused k; card = replicate maxFrames 0 } ≡ ticketOf (parse t)) × (numbersOf (Refused k) ≡ numbersIn (parse t))
+  unfolding zeros
+  parsed-refused k q = let p = was-refused t a e k q in (rw p, rw p)
+
+  pub parsed-accepted :
+      (h : Header) (card : List ℕ) → a ≡ Accepted h → card ≡ readInto t (replicate maxFrames 0)
+      → (record { answer = Accepted h; card = card } ≡ ticketOf (parse t)) × (numbersOf (Accepted h) ≡ numbersIn (parse t))
+  unfolding zeros
+  parsed-accepted h card q m =
+      let p = was-accepted t a e h q in
+      let card-is = m ∙ into-zeros t h (p .0) (p .1) in
+      (rw (p .1, ← card-is), rw (p .1))

@@ -12,8 +12,8 @@ use Rattle.header.specs.Heading.{headerDigits, headerBytes, headerOf}
 use Rattle.header.specs.Limits.{Within, Outside, edition1, modeSaveAndKeep, maxCards, maxPool, maxFrames}
 use Rattle.frame_lines.specs.Lines.{lineDigits, lineBytes, cardAt}
 use Rattle.ticket.specs.Ticket.{Parsed, accepted, refused, parse}
-use Rattle.ticket.specs.declared.Ticket.{Ticket}
 use Rattle.header.specs.declared.Header.{Header}
+use Rattle.header.specs.declared.Answer.{Answer}
 use Rattle.header.specs.declared.Answer.the-variants.{Accepted, Refused}
 
 module _ (t : List ℕ) where
@@ -98,8 +98,9 @@ pub record Fits (h : Header) (cards : List ℕ) : Type 0 where
   pub each-card : (i : ℕ) → i < length cards → cardOf cards i < h .cards
 
 -- What a call that takes a ticket goes on with once it is read: the number of its refusal, or its header, with the list of cards beside it
--- at the front of the array.
-pub record ReadAs (t : List ℕ) (r : Ticket) : Type 0 where
-  pub refusal : (k : ℕ) → r .answer ≡ Refused k → parse t ≡ refused k
-  pub list : (h : Header) → r .answer ≡ Accepted h → parse t ≡ accepted h (take (h .frames) (r .card))
-  pub fits : (h : Header) → r .answer ≡ Accepted h → Fits h (take (h .frames) (r .card))
+-- at the front of lent memory.
+pub record ReadAs (t : List ℕ) (answer : Answer) (memory : List ℕ) : Type 0 where
+  pub long : length memory ≡ maxFrames
+  pub refusal : (k : ℕ) → answer ≡ Refused k → parse t ≡ refused k
+  pub list : (h : Header) → answer ≡ Accepted h → parse t ≡ accepted h (take (h .frames) memory)
+  pub fits : (h : Header) → answer ≡ Accepted h → Fits h (take (h .frames) memory)

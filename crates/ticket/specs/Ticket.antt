@@ -14,7 +14,7 @@ use Rattle.header.specs.Limits.{maxCards, maxFrames}
 use Rattle.header.specs.declared.Header.{Header}
 use Rattle.header.specs.declared.Answer.{Answer}
 use Rattle.header.specs.declared.Answer.the-variants.{Accepted, Refused}
-use Rattle.frame_lines.specs.Lines.{lineDigits, lineBytes, cardAt, partFault}
+use Rattle.frame_lines.specs.Lines.{lineDigits, lineBytes, cardAt, partFault, cardsRead}
 use Rattle.frame_lines.specs.Tally.{countsUpTo}
 use Rattle.ticket.specs.declared.Ticket.{Ticket}
 
@@ -33,6 +33,20 @@ parsePart (Accepted h) s =
 -- "Tickets: 1 to 6, then line by line 7 before 8, then 9"
 unfoldable pub parse : List ℕ → Parsed
 parse t = parsePart (heading t) (drop headerBytes t)
+
+-- the answer to a text, without the cards
+abbrev pub answerIn : Parsed → Answer
+answerIn (accepted h cards) = Accepted h
+answerIn (refused k) = Refused k
+
+-- What lent memory holds when a text was read into it: over its front the cards of the frame lines, up to the first that does not pass. A
+-- refused header leaves it as it was.
+abbrev pub partInto : Answer → List ℕ → List ℕ → List ℕ
+partInto (Refused k) s memory = memory
+partInto (Accepted h) s memory = cardsRead s (h .cards) (h .frames) memory
+
+unfoldable pub readInto : List ℕ → List ℕ → List ℕ
+readInto t memory = partInto (heading t) (drop headerBytes t) memory
 
 -- n zeros
 unfoldable pub zeros : ℕ → List ℕ

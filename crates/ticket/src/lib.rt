@@ -1,10 +1,13 @@
 // The ticket's text: what it says, or the number of the one refusal that it gets. Everything that takes a ticket goes through here.
 ghost use mathlib.Core.Path.{_≡_};
+ghost use Prim.Native.Nat.{_≤_};
+ghost use lib.ListN.{length};
 ghost use Rattle.header.specs.Heading.{heading};
 ghost use Rattle.header.specs.Numbers.{numbersOf};
+ghost use Rattle.header.specs.Limits.{maxFrames};
 ghost use Rattle.ticket.specs.Grounds.{ReadAs};
 ghost use Rattle.ticket.specs.Part.{address};
-ghost use Rattle.ticket.specs.Ticket.{refused, parse, ticketOf, numbersIn, refusalOf, lineRefusalOf, lineStart, lineOf, linePlace, countsOf};
+ghost use Rattle.ticket.specs.Ticket.{parse, answerIn, readInto, ticketOf, numbersIn, refusalOf, lineRefusalOf, lineStart, lineOf, linePlace, countsOf};
 use counting::Position;
 use header::Answer;
 use header::Header;
@@ -16,42 +19,58 @@ pub struct Ticket {
     pub card: [u8; limits::FRAMES],
 }
 
-fn refused(number: u8) -> Ticket
-    ensures { λ r. ⌜ r ≡ ticketOf (refused number) ⌝ }
-{
-    Ticket {
-        answer: Answer::Refused(number),
-        card: [0u8; limits::FRAMES],
-    }
-}
-
 // Reads the frame lines of a ticket whose header is accepted.
-fn read_part(t: &[u8], h: Header) -> Ticket
-    requires { ⌜ heading (now t) ≡ Answer.Accepted h ⌝ }
-    ensures { λ r. ⌜ r ≡ ticketOf (parse (now (t .entry))) ⌝ }
+fn read_part(t: &[u8], h: Header, card: &mut [u8]) -> Answer
+    requires { ⌜ (heading (now t) ≡ Answer.Accepted h) × (maxFrames ≤ length (now card)) ⌝ }
+    ensures { λ r. ⌜ (r ≡ answerIn (parse (now (t .entry)))) × (now (card .exit) ≡ readInto (now (t .entry)) (now (card .entry))) ⌝ }
 {
     let value = text::digit_values();
-    let mut card = [0u8; limits::FRAMES];
-    let number = frame_lines::read_lines(&value, &t[15..], h.cards, h.frames, &mut card);
+    let number = frame_lines::read_lines(&value, &t[15..], h.cards, h.frames, card);
     if number != 0 {
-        return refused(number);
+        return Answer::Refused(number);
     }
-    Ticket {
-        answer: Answer::Accepted(h),
-        card: card,
-    }
+    Answer::Accepted(h)
 }
 
-// Reads a ticket. `reads` is what a call that takes a ticket goes on with: a refusal, or the header and the list beside it.
-pub fn parse(t: &[u8]) -> Ticket
-    ensures answer { λ r. ⌜ r ≡ ticketOf (parse (now (t .entry))) ⌝ }
-    ensures numbers { λ r. ⌜ numbersOf (r .answer) ≡ numbersIn (parse (now (t .entry))) ⌝ }
-    ensures reads { λ r. ⌜ ReadAs (now (t .entry)) r ⌝ }
+// Reads a ticket; memory has room for the longest list.
+fn read_any(t: &[u8], card: &mut [u8]) -> Answer
+    requires { ⌜ maxFrames ≤ length (now card) ⌝ }
+    ensures { λ r. ⌜ (r ≡ answerIn (parse (now (t .entry)))) × (now (card .exit) ≡ readInto (now (t .entry)) (now (card .entry))) ⌝ }
 {
     let answer = header::heading(t);
     match answer {
-        Answer::Refused(number) => refused(number),
-        Answer::Accepted(h) => read_part(t, h),
+        Answer::Refused(number) => Answer::Refused(number),
+        Answer::Accepted(h) => read_part(t, h, card),
+    }
+}
+
+// Reads a ticket into lent memory, which then has the cards of the lines that pass at its front. `reads` is what a call that takes a ticket
+// goes on with: a refusal, or the header and the list beside it.
+pub fn read(t: &[u8], card: &mut [u8; limits::FRAMES]) -> Answer
+    ensures answer { λ r. ⌜ r ≡ answerIn (parse (now (t .entry))) ⌝ }
+    ensures numbers { λ r. ⌜ numbersOf r ≡ numbersIn (parse (now (t .entry))) ⌝ }
+    ensures memory { λ r. ⌜ now (card .exit) ≡ readInto (now (t .entry)) (now (card .entry)) ⌝ }
+    ensures reads { λ r. ⌜ ReadAs (now (t .entry)) r (now (card .exit)) ⌝ }
+{
+    read_any(t, card)
+}
+
+// Reads a ticket by value.
+pub fn parse(t: &[u8]) -> Ticket
+    ensures answer { λ r. ⌜ r ≡ ticketOf (parse (now (t .entry))) ⌝ }
+    ensures numbers { λ r. ⌜ numbersOf (r .answer) ≡ numbersIn (parse (now (t .entry))) ⌝ }
+{
+    let mut card = [0u8; limits::FRAMES];
+    let answer = read(t, &mut card);
+    match answer {
+        Answer::Refused(number) => Ticket {
+            answer: Answer::Refused(number),
+            card: [0u8; limits::FRAMES],
+        },
+        Answer::Accepted(h) => Ticket {
+            answer: Answer::Accepted(h),
+            card: card,
+        },
     }
 }
 
@@ -59,8 +78,8 @@ pub fn parse(t: &[u8]) -> Ticket
 pub fn refusal(t: &[u8]) -> u8
     ensures { λ r. ⌜ r ≡ refusalOf (parse (now (t .entry))) ⌝ }
 {
-    let ticket = parse(t);
-    let answer = ticket.answer;
+    let mut card = [0u8; limits::FRAMES];
+    let answer = read(t, &mut card);
     match answer {
         Answer::Refused(number) => number,
         Answer::Accepted(_) => 0,
@@ -71,8 +90,8 @@ pub fn refusal(t: &[u8]) -> u8
 pub fn line_refusal(t: &[u8], p: Position) -> u8
     ensures { λ r. ⌜ r ≡ lineRefusalOf (parse (now (t .entry))) (p .0) ⌝ }
 {
-    let ticket = parse(t);
-    let answer = ticket.answer;
+    let mut card = [0u8; limits::FRAMES];
+    let answer = read(t, &mut card);
     match answer {
         Answer::Refused(number) => number,
         Answer::Accepted(h) => if p.0 < h.frames { 0 } else { 16 },
@@ -103,9 +122,8 @@ pub fn line(t: &[u8], p: Position) -> &[u8]
 pub fn counts(t: &[u8]) -> [u16; limits::CARDS]
     ensures { λ r. ⌜ r ≡ countsOf (parse (now (t .entry))) ⌝ }
 {
-    let ticket = parse(t);
-    let answer = ticket.answer;
-    let card = ticket.card;
+    let mut card = [0u8; limits::FRAMES];
+    let answer = read(t, &mut card);
     match answer {
         Answer::Refused(_) => [0u16; limits::CARDS],
         Answer::Accepted(h) => frame_lines::tally::tally(&card, h.frames),

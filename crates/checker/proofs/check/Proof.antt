@@ -6,8 +6,8 @@ use borrow.Author.Needs.{needs}
 use Rattle.checker.proofs.check.Statement.{statement}
 use Rattle.checker.proofs.check.Tie as tie
 
-parse-requires : tie.Need-parse-requires
-parse-requires c κs = search needs
+read-requires : tie.Need-read-requires
+read-requires c κs = search needs
 
 enum-known-answer : tie.Need-enum-known-answer
 enum-known-answer c = search needs
@@ -20,17 +20,17 @@ slice-aggregate-check-list c = search needs
 
 check-list-requires : tie.Need-check-list-requires
 check-list-requires c κs =
-    let read = c .before .before .before .before .before .parse .ensures .1 .1 in
+    let read = c .before .before .before .before .read .ensures .1 .1 .1 in
     read .fits _ (c .before .before .answer2 .given .1)
 
 returns : tie.Need-returns
 returns c =
-    let read = c .before .before .before .before .parse .ensures .1 .1 in
+    let read = c .before .before .before .read .ensures .1 .1 .1 in
     contract _ _ _ (rw (read .refusal _ (c .before .answer .given .1)) (ticket-refused _ _))
 
 returns-2 : tie.Need-returns-2
 returns-2 c =
-    let read = c .before .before .before .before .before .before .parse .ensures .1 .1 in
+    let read = c .before .before .before .before .before .read .ensures .1 .1 .1 in
     let accepted = c .before .before .before .answer2 .given .1 in
     contract _ _ _ (rw (read .list _ accepted) (c .check-list .ensures))
 
@@ -38,7 +38,7 @@ pub check-spec : {M : Type 1} → statement M
 check-spec =
     tie.close
     (tie.spec
-    parse-requires
+    read-requires
     enum-known-answer
     enum-known-answer-2
     slice-aggregate-check-list

@@ -5,8 +5,8 @@ use borrow.Author.Needs.{needs}
 use Rattle.dock.proofs.start.Statement.{statement}
 use Rattle.dock.proofs.start.Tie as tie
 
-parse-requires : tie.Need-parse-requires
-parse-requires c κs = search needs
+read-requires : tie.Need-read-requires
+read-requires c κs = search needs
 
 enum-known-answer : tie.Need-enum-known-answer
 enum-known-answer c = search needs
@@ -22,12 +22,12 @@ slice-aggregate-start-list c = search needs
 
 start-list-requires : tie.Need-start-list-requires
 start-list-requires c κs =
-    let read = c .before .before .before .before .before .before .parse .ensures .1 .1 in
+    let read = c .before .before .before .before .before .read .ensures .1 .1 .1 in
     read .fits _ (c .before .before .before .answer2 .given .1)
 
 returns : tie.Need-returns
 returns c =
-    let read = c .before .before .before .before .before .parse .ensures .1 .1 in
+    let read = c .before .before .before .before .read .ensures .1 .1 .1 in
     rw (read .refusal _ (c .before .before .answer .given .1)) (ticket-refused _ _ (c .refused .ensures) _)
 
 same-length : tie.Need-same-length
@@ -36,7 +36,7 @@ same-length c = search needs
 returns-2 : tie.Need-returns-2
 returns-2 c =
     let listed = c .before .before in
-    let read = listed .before .before .before .before .before .before .before .parse .ensures .1 .1 in
+    let read = listed .before .before .before .before .before .before .read .ensures .1 .1 .1 in
     let accepted = listed .before .before .before .before .answer2 .given .1 in
     rw (read .list _ accepted) (listed .start-list .ensures)
 
@@ -44,7 +44,7 @@ pub start-spec : {M : Type 1} → statement M
 start-spec =
     tie.close
     (tie.spec
-    parse-requires
+    read-requires
     enum-known-answer
     refused-requires
     enum-known-answer-2

@@ -2,7 +2,7 @@
 -- Assumes nothing.
 use mathlib.Core.Path.{sym, _∙_}
 use native.Mathlib.Omega.{arith}
-use Rattle.frame_lines.proofs.Faults.{part-9, part-0, refused-next, all-pass}
+use Rattle.frame_lines.proofs.Faults.{part-9, part-0, refused-next, all-pass, memory-read}
 use borrow.Author.Needs.{needs}
 use Rattle.frame_lines.proofs.read_lines.Statement.{statement}
 use Rattle.frame_lines.proofs.read_lines.Tie as tie
@@ -29,7 +29,7 @@ returns c =
     let whole = passed .before .before .fewer .ensures in
     let line = sym (c .before .is-line .ensures (start .pre .0)) ∙ c .if2 .taken in
     let refused = refused-next _ (start .args .cards) (start .args .frames) _ _ _ _ whole (passed .read-passing .ensures) _ line (omega arith) in
-    (refused .0, λ z. absurd (refused .1 z))
+    (refused, memory-read _ (start .args .cards) (start .args .frames) _ _ _ _ whole (passed .read-passing .ensures))
 
 same-length-2 : tie.Need-same-length-2
 same-length-2 c = search needs
@@ -41,7 +41,7 @@ returns-2 c =
     let whole = passed .before .before .fewer .ensures in
     let line = sym (c .before .is-line .ensures (start .pre .0)) ∙ c .if2 .left in
     let refused = refused-next _ (start .args .cards) (start .args .frames) _ _ _ _ whole (passed .read-passing .ensures) _ line (omega arith) in
-    (refused .0, λ z. absurd (refused .1 z))
+    (refused, memory-read _ (start .args .cards) (start .args .frames) _ _ _ _ whole (passed .read-passing .ensures))
 
 mul-if3 : tie.Need-mul-if3
 mul-if3 c = search needs
@@ -55,7 +55,7 @@ returns-3 c =
     let args = passed .before .before .before .before .before .args in
     let whole = passed .before .before .fewer .ensures in
     let all = all-pass _ (args .cards) (args .frames) _ _ _ _ whole (passed .read-passing .ensures) (omega arith) in
-    (sym (part-9 _ _ _ (all .0) (omega arith)), λ z. absurd (omega arith))
+    (sym (part-9 _ _ _ all (omega arith)), memory-read _ (args .cards) (args .frames) _ _ _ _ whole (passed .read-passing .ensures))
 
 same-length-4 : tie.Need-same-length-4
 same-length-4 c = search needs
@@ -66,7 +66,7 @@ returns-4 c =
     let args = passed .before .before .before .before .before .args in
     let whole = passed .before .before .fewer .ensures in
     let all = all-pass _ (args .cards) (args .frames) _ _ _ _ whole (passed .read-passing .ensures) (omega arith) in
-    (sym (part-0 _ _ _ (all .0) (omega arith)), λ z. all .1)
+    (sym (part-0 _ _ _ all (omega arith)), memory-read _ (args .cards) (args .frames) _ _ _ _ whole (passed .read-passing .ensures))
 
 pub read-lines-spec : {M : Type 1} → statement M
 read-lines-spec =

@@ -5,8 +5,8 @@ use borrow.Author.Needs.{needs}
 use Rattle.plan_run.proofs.run_plan.Statement.{statement}
 use Rattle.plan_run.proofs.run_plan.Tie as tie
 
-parse-requires : tie.Need-parse-requires
-parse-requires c κs = search needs
+read-requires : tie.Need-read-requires
+read-requires c κs = search needs
 
 enum-known-answer : tie.Need-enum-known-answer
 enum-known-answer c = search needs
@@ -19,17 +19,17 @@ slice-aggregate-run-list c = search needs
 
 run-list-requires : tie.Need-run-list-requires
 run-list-requires c κs =
-    let read = c .before .before .before .before .before .parse .ensures .1 .1 in
+    let read = c .before .before .before .before .read .ensures .1 .1 .1 in
     read .fits _ (c .before .before .answer2 .given .1)
 
 returns : tie.Need-returns
 returns c =
-    let read = c .before .before .before .before .parse .ensures .1 .1 in
+    let read = c .before .before .before .read .ensures .1 .1 .1 in
     contract _ _ _ (rw (read .refusal _ (c .before .answer .given .1)) (ticket-refused _ _))
 
 returns-2 : tie.Need-returns-2
 returns-2 c =
-    let read = c .before .before .before .before .before .before .before .parse .ensures .1 .1 in
+    let read = c .before .before .before .before .before .before .read .ensures .1 .1 .1 in
     let accepted = c .before .before .before .before .answer2 .given .1 in
     contract _ _ _ (rw (read .list _ accepted) (c .before .run-list .ensures))
 
@@ -37,7 +37,7 @@ pub run-plan-spec : {M : Type 1} → statement M
 run-plan-spec =
     tie.close
     (tie.spec
-    parse-requires
+    read-requires
     enum-known-answer
     enum-known-answer-2
     slice-aggregate-run-list

@@ -6,8 +6,8 @@ use borrow.Author.Needs.{needs}
 use Rattle.planner.proofs.plan.Statement.{statement}
 use Rattle.planner.proofs.plan.Tie as tie
 
-parse-requires : tie.Need-parse-requires
-parse-requires c κs = search needs
+read-requires : tie.Need-read-requires
+read-requires c κs = search needs
 
 enum-known-answer : tie.Need-enum-known-answer
 enum-known-answer c = search needs
@@ -20,12 +20,12 @@ slice-aggregate-plan-list c = search needs
 
 plan-list-requires : tie.Need-plan-list-requires
 plan-list-requires c κs =
-    let read = c .before .before .before .before .before .before .parse .ensures .1 .1 in
+    let read = c .before .before .before .before .before .read .ensures .1 .1 .1 in
     read .fits _ (c .before .before .before .answer2 .given .1)
 
 returns : tie.Need-returns
 returns c =
-    let read = c .before .before .before .before .parse .ensures .1 .1 in
+    let read = c .before .before .before .read .ensures .1 .1 .1 in
     contract _ _ _ _ (rw (read .refusal _ (c .before .answer .given .1)) (ticket-refused _ _))
 
 same-length : tie.Need-same-length
@@ -34,7 +34,7 @@ same-length c = search needs
 returns-2 : tie.Need-returns-2
 returns-2 c =
     let listed = c .before .before in
-    let read = listed .before .before .before .before .before .before .before .parse .ensures .1 .1 in
+    let read = listed .before .before .before .before .before .before .read .ensures .1 .1 .1 in
     let accepted = listed .before .before .before .before .answer2 .given .1 in
     contract _ _ _ _ (rw (read .list _ accepted) (listed .plan-list .ensures))
 
@@ -42,7 +42,7 @@ pub plan-spec : {M : Type 1} → statement M
 plan-spec =
     tie.close
     (tie.spec
-    parse-requires
+    read-requires
     enum-known-answer
     enum-known-answer-2
     slice-aggregate-plan-list

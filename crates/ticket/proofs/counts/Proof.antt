@@ -6,8 +6,8 @@ use borrow.Author.Needs.{needs}
 use Rattle.ticket.proofs.counts.Statement.{statement}
 use Rattle.ticket.proofs.counts.Tie as tie
 
-parse-requires : tie.Need-parse-requires
-parse-requires c κs = search needs
+read-requires : tie.Need-read-requires
+read-requires c κs = search needs
 
 enum-told : tie.Need-enum-told
 enum-told c = search needs
@@ -20,26 +20,26 @@ slice-aggregate-tally c = search needs
 
 tally-requires : tie.Need-tally-requires
 tally-requires c κs =
-    let p = c .before .before .before .before .before .parse in
+    let p = c .before .before .before .before .read in
     let a = c .before .before .answer .given in
-    counts-asked _ (p .result) (p .ensures .0) (a .0 .0) (a .1)
+    counts-asked _ _ (p .result) (p .ensures .1 .1 .1) (a .0 .0) (a .1)
 
 returns : tie.Need-returns
 returns c =
-    let p = c .before .before .before .parse in
-    counts-refused _ (p .result) (p .ensures .0) (c .enum-told .given .0 .0) (c .enum-told .given .1)
+    let p = c .before .before .read in
+    counts-refused _ _ (p .result) (p .ensures .1 .1 .1) (c .enum-told .given .0 .0) (c .enum-told .given .1)
 
 returns-2 : tie.Need-returns-2
 returns-2 c =
-    let p = c .before .before .before .before .before .before .parse in
+    let p = c .before .before .before .before .before .read in
     let a = c .before .before .before .answer .given in
-    c .tally .ensures ∙ counts-given _ (p .result) (p .ensures .0) (a .0 .0) (a .1)
+    c .tally .ensures ∙ counts-given _ _ (p .result) (p .ensures .1 .1 .1) (a .0 .0) (a .1)
 
 pub counts-spec : {M : Type 1} → statement M
 counts-spec =
     tie.close
     (tie.spec
-    parse-requires
+    read-requires
     enum-told
     enum-known-answer
     slice-aggregate-tally

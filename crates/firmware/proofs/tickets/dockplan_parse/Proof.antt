@@ -6,14 +6,14 @@ use borrow.Author.Needs.{needs}
 use Rattle.firmware.proofs.tickets.dockplan_parse.Statement.{statement}
 use Rattle.firmware.proofs.tickets.dockplan_parse.Tie as tie
 
-parse-requires : tie.Need-parse-requires
-parse-requires c κs = search needs
+read-requires : tie.Need-read-requires
+read-requires c κs = search needs
 
 ticket-answer-requires : tie.Need-ticket-answer-requires
 ticket-answer-requires c κs = search needs
 
 returns : tie.Need-returns
-returns c = c .ticket-answer .ensures ∙ ap ticketAnswer (c .before .parse .ensures .1 .0)
+returns c = c .ticket-answer .ensures ∙ ap ticketAnswer (c .before .read .ensures .1 .0)
 
 pub dockplan-parse-spec : {M : Type 1} → statement M
-dockplan-parse-spec = tie.close (tie.spec parse-requires ticket-answer-requires returns)
+dockplan-parse-spec = tie.close (tie.spec read-requires ticket-answer-requires returns)
