@@ -7,15 +7,13 @@ use mathlib.Core.Bool.{Bool, true, false, false≢true}
 use mathlib.Core.List.{List}
 use native.Mathlib.Omega.{arith}
 use lib.Dec.{ltb}
-use lib.ListN.{length, replicate, length-replicate}
+use lib.ListN.{length}
 use borrow.Author.Tests.{ltb-true}
-use Rattle.schedule.specs.Schedule.{cyclesIn, oBacklog, iBacklog, Correct}
+use Rattle.schedule.specs.Schedule.{cyclesIn, Correct}
 use Rattle.schedule.specs.Dock.{emptyDock}
 use Rattle.schedule.specs.Drive.{peak, stepsOf}
 use Rattle.schedule.specs.Verdict.{verdictOnRead, verdictOnSave}
-use Rattle.schedule.specs.Closed.{readBefore}
-use Rattle.counting.proofs.Lists.{getD-zeros, le-largest, among}
-use Rattle.counting.proofs.Bits.{by-cases}
+use Rattle.counting.proofs.Lists.{le-largest}
 use Rattle.schedule.proofs.Peak.{peak-closed}
 use Rattle.schedule.proofs.Exact.{valid-correct, otherwise}
 use Rattle.header.specs.Limits.{maxFrames}

@@ -6,107 +6,25 @@ use mathlib.Core.List.{List, [], _++_}
 use native.Mathlib.Omega.{arith}
 use lib.ListN.{length, take, drop, replicate, length-append, length-drop, take-append-drop, List·getD-append}
 use lib.Seq.{take-at, length-take-le}
-use borrow.Author.Tests.{eqb-true, ne-eqb, lt-ltb, le-ltb, ltb-true}
-use lib.Dec.{eqb, ltb}
-use Rattle.counting.specs.Count.{tabulate}
+use borrow.Author.Tests.{ne-eqb, lt-ltb, le-ltb, ltb-true}
+use lib.Dec.{ltb}
 use Rattle.counting.specs.Frames.{cardOf}
 use Rattle.counting.proofs.Bits.{by-cases}
-use Rattle.counting.proofs.Lists.{length-tabulate}
-use Rattle.counting.proofs.Parts.{from-place, drop-replicate}
-use Rattle.header.specs.Heading.{headerBytes, heading}
 use Rattle.header.specs.Numbers.{numbersOf}
 use Rattle.header.specs.Limits.{maxCards, maxFrames}
 use Rattle.ticket.specs.Grounds.{Fits, ReadAs}
 use Rattle.ticket.specs.Part.{address}
 use Rattle.frame_lines.specs.Tally.{countsUpTo}
-use Rattle.ticket.specs.Ticket.{Parsed, accepted, refused, parsePart, parse, answerIn, partInto, readInto, zeros, ticketOf, numbersIn, countsOf}
-use Rattle.frame_lines.specs.Lines.{lineBytes, lineDigits, cardAt, partFault, linesPassing, cardsRead}
+use Rattle.ticket.specs.Ticket.{Parsed, accepted, refused, parse, answerIn, readInto, zeros, ticketOf, numbersIn, countsOf}
+use Rattle.frame_lines.specs.Lines.{lineBytes, lineDigits}
 use Rattle.ticket.specs.Ticket.{lineRefusalOf, lineStart, lineIn, lineOf, linePlace}
 use Rattle.ticket.proofs.Accepted.{as-many, fits, line-inside}
 use Rattle.frame_lines.proofs.Counting.{counts-front}
-use Rattle.frame_lines.proofs.Faults.{all-read, passing-few}
-use Rattle.ticket.proofs.Reader.{header-passes, header-read, refusal-number}
+use Rattle.ticket.proofs.Memory.{into-accepted, into-long, into-zeros}
+use Rattle.ticket.proofs.Reader.{refusal-number}
 use Rattle.header.specs.declared.Header.{Header}
 use Rattle.header.specs.declared.Answer.{Answer}
 use Rattle.header.specs.declared.Answer.the-variants.{Accepted, Refused}
-
-module _ (t : List ℕ) where
-  module _ (h : Header) (e : heading t ≡ Accepted h) where
-    pub long : headerBytes ≤ length t
-    long = omega (arith, header-passes t h e .line .inside)
-
-    pub few-frames : h .frames ≤ maxFrames
-    few-frames = rw (header-read t h e) (header-passes t h e .frames)
-
-    -- what the frame lines say
-    module _ {k : ℕ} (q : k ≡ partFault (take (length t - headerBytes) (drop headerBytes t)) (h .cards) (h .frames)) where
-      fault-is : k ≡ partFault (drop headerBytes t) (h .cards) (h .frames)
-      fault-is = rw from-place at q
-
-      pub part-refused : (k ≡ 0 → ⊥) → Refused k ≡ answerIn (parse t)
-      unfolding parse
-      part-refused n = rw (e, ← fault-is, ne-eqb k 0 n)
-
-      pub part-accepted : k ≡ 0 → Accepted h ≡ answerIn (parse t)
-      unfolding parse
-      part-accepted z = rw (e, ← fault-is, z)
-
-    pub part-into :
-        (memory : List ℕ) {after : List ℕ} → after ≡ cardsRead (take (length t - headerBytes) (drop headerBytes t)) (h .cards) (h .frames) memory
-        → after ≡ readInto t memory
-    unfolding readInto
-    part-into memory q = rw e (rw from-place at q)
-
-  pub header-into : (k : ℕ) (memory : List ℕ) → heading t ≡ Refused k → memory ≡ readInto t memory
-  unfolding readInto
-  header-into k memory e = rw e
-
--- memory after a text was read into it
-into-part :
-    (x : Answer) (s memory : List ℕ) (h : Header) (cards : List ℕ) → parsePart x s ≡ accepted h cards
-    → partInto x s memory ≡ cards ++ drop (h .frames) memory
-into-part (Refused k) s memory h cards e = let z : _≡_ {A = ℕ} 0 1 = cc in absurd (omega arith)
-into-part (Accepted g) s memory h cards e =
-    by-cases (eqb (partFault s (g .cards) (g .frames)) 0)
-    (λ z.
-    let q : accepted g (tabulate (g .frames) (cardAt s)) ≡ accepted h cards = rw z at e in
-    let g-is : g ≡ h = cc in
-    let cards-are : tabulate (g .frames) (cardAt s) ≡ cards = cc in
-    rw (all-read s (g .cards) (g .frames) memory (eqb-true _ _ z), cards-are, g-is))
-    (λ z.
-    let q : refused (partFault s (g .cards) (g .frames)) ≡ accepted h cards = rw z at e in
-    let w : _≡_ {A = ℕ} 0 1 = cc in
-    absurd (omega arith))
-
-long-part : (x : Answer) (s memory : List ℕ) → ((h : Header) → x ≡ Accepted h → h .frames ≤ length memory) → length (partInto x s memory) ≡ length memory
-unfolding cardsRead
-long-part (Refused k) s memory few = refl
-long-part (Accepted h) s memory few =
-    omega (
-      arith,
-      length-append (tabulate (linesPassing s (h .cards) (h .frames)) (cardAt s)) (drop (linesPassing s (h .cards) (h .frames)) memory),
-      length-tabulate (linesPassing s (h .cards) (h .frames)) (cardAt s),
-      length-drop (linesPassing s (h .cards) (h .frames)) memory,
-      passing-few s (h .cards) (h .frames),
-      few h refl,
-    )
-
-module _ (t memory : List ℕ) where
-  pub into-accepted : (h : Header) (cards : List ℕ) → parse t ≡ accepted h cards → readInto t memory ≡ cards ++ drop (h .frames) memory
-  unfolding parse readInto
-  into-accepted h cards e = into-part (heading t) (drop headerBytes t) memory h cards e
-
-  into-long : maxFrames ≤ length memory → length (readInto t memory) ≡ length memory
-  unfolding readInto
-  into-long l = long-part (heading t) (drop headerBytes t) memory (λ h e. omega (arith, few-frames t h e))
-
-into-zeros :
-    (t : List ℕ) (h : Header) (cards : List ℕ) → parse t ≡ accepted h cards
-    → readInto t (replicate maxFrames 0) ≡ cards ++ replicate (maxFrames - length cards) 0
-into-zeros t h cards e =
-    into-accepted t (replicate maxFrames 0) h cards e
-    ∙ ap (λ k. cards ++ drop k (replicate maxFrames 0)) (sym (as-many t h cards e))
-    ∙ ap (λ rest. cards ++ rest) (drop-replicate maxFrames (length cards) 0)
 
 -- from the answer to what the text is read as
 answer-refused : (p : Parsed) (k : ℕ) → answerIn p ≡ Refused k → p ≡ refused k

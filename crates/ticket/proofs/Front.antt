@@ -16,7 +16,7 @@ use Rattle.header.specs.declared.Answer.{Answer}
 use Rattle.header.specs.declared.Answer.the-variants.{Accepted, Refused}
 use Rattle.frame_lines.specs.Lines.{lineBytes, lineDigits, cardAt, lineFault, linesFault, partFault}
 use Rattle.ticket.specs.Ticket.{parsePart, parse}
-use Rattle.ticket.proofs.Answers.{few-frames}
+use Rattle.ticket.proofs.Memory.{few-frames}
 use Rattle.counting.proofs.Parts.{below-take}
 
 module _ (n : ℕ) (s : List ℕ) (at : ℕ) where

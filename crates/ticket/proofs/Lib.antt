@@ -3,6 +3,7 @@ pub mod Front
 pub mod Again
 pub mod Written
 pub mod Answers
+pub mod Memory
 pub mod Accepted
 pub mod Reader
 pub mod Passing

@@ -2,7 +2,7 @@
 -- Assumes nothing.
 use mathlib.Core.Path.{sym, ap, _∙_}
 use Rattle.ticket.specs.Ticket.{answerIn}
-use Rattle.ticket.proofs.Answers.{header-into}
+use Rattle.ticket.proofs.Memory.{header-into}
 use Rattle.ticket.proofs.Reader.{header-refused}
 use borrow.Author.Needs.{needs}
 use Rattle.ticket.proofs.read_any.Statement.{statement}

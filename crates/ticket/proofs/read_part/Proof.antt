@@ -1,8 +1,7 @@
 -- `ticket::read_part` meets its contract.
 -- Assumes nothing.
-use mathlib.Core.Path.{_≡_}
 use native.Mathlib.Omega.{arith}
-use Rattle.ticket.proofs.Answers.{long, few-frames, part-refused, part-accepted, part-into}
+use Rattle.ticket.proofs.Memory.{long, few-frames, part-refused, part-accepted, part-into}
 use borrow.Author.Needs.{needs}
 use Rattle.ticket.proofs.read_part.Statement.{statement}
 use Rattle.ticket.proofs.read_part.Tie as tie

@@ -1,10 +1,6 @@
 -- `pool_counts::below::most_of` meets its contract.
 -- Assumes nothing.
-use mathlib.Core.Path.{_≡_, refl}
-use mathlib.Core.Bool.{Bool, true, false}
-use mathlib.Core.List.{List}
-use Prim.Native.Nat.{ℕ}
-use Rattle.pool_counts.specs.Counts.{Bounds, backlogOf, peakOf}
+use mathlib.Core.Path.{refl}
 use Rattle.pool_counts.proofs.Adding.{zeroed}
 use borrow.Author.Needs.{needs}
 use Rattle.pool_counts.proofs.below.most_of.Statement.{statement}
