@@ -13,7 +13,7 @@ use Rattle.header.specs.declared.Header.{Header}
 use Rattle.ticket.specs.Ticket.{accepted, refused}
 use Rattle.ticket.specs.Grounds.{Fits}
 use Rattle.checker.specs.Check.{answerOf, verdictOn, checkOf}
-use Rattle.checker.specs.Parts.{Checking}
+use Rattle.plan_faults.specs.Faults.{Checking}
 use Rattle.checker.specs.declared.Verdict.{Verdict}
 use Rattle.checker.specs.declared.Verdict.the-variants.{Refused}
 

@@ -4,5 +4,3 @@ pub mod Numbers
 pub mod Accepts
 pub mod Answers
 pub mod Whole
-pub mod Sharing
-pub mod Judged

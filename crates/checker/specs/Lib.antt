@@ -2,4 +2,4 @@ pub mod Check
 pub mod Numbers
 pub mod Exact
 pub mod Cases
-pub mod Parts
+pub mod Completed

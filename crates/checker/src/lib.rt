@@ -7,7 +7,6 @@ ghost use Rattle.checker.specs.Check.{checkOf};
 ghost use Rattle.checker.specs.Numbers.{numbersOf};
 ghost use Rattle.checker.specs.Exact.{Exact};
 
-mod frames;
 mod verdicts;
 
 use counting::Cycle;

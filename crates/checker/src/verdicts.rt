@@ -1,21 +1,23 @@
 // The verdict on a plan: its first fault, or T and the peak.
 ghost use mathlib.Core.Path.{_≡_};
 ghost use Rattle.schedule.specs.Schedule.{cyclesIn};
+ghost use Rattle.plan_faults.specs.Faults.{Checking};
 ghost use Rattle.checker.specs.Check.{answerOf, verdictOn};
-ghost use Rattle.checker.specs.Parts.{Checking, completed};
+ghost use Rattle.checker.specs.Completed.{completed};
 use crate::Verdict;
-use crate::frames;
 use counting::Cycle;
 use header::limits;
+use plan_faults::Found;
 
-// A valid verdict gets its T and peak; a fault stays.
-fn complete(v: Verdict, top: Cycle, peak: u16) -> Verdict
-    ensures { λ r. ⌜ r ≡ completed v (top .0) peak ⌝ }
+// The fault that was found; or valid, with T and the peak.
+fn complete(found: Found, top: Cycle, peak: u16) -> Verdict
+    ensures { λ r. ⌜ r ≡ completed found (top .0) peak ⌝ }
 {
-    if frames::is_valid(v) {
-        Verdict::Valid(top, peak)
-    } else {
-        v
+    match found {
+        Found::Nothing => Verdict::Valid(top, peak),
+        Found::CycleMissing(p) => Verdict::NoCycle(p),
+        Found::CardShared(p) => Verdict::SharedCard(p),
+        Found::PoolOverfull(p) => Verdict::Overfull(p),
     }
 }
 
@@ -24,9 +26,9 @@ fn verdict_on_late(save: bool, cards: &[u8], plan: &[u16], m: u16, top: Cycle) -
     requires { ⌜ Checking (now cards) (now plan) × (top .0 ≡ cyclesIn (now plan)) ⌝ }
     ensures { λ r. ⌜ r ≡ answerOf (verdictOn save m (now (cards .entry)) (now (plan .entry))) ⌝ }
 {
-    let v = frames::first_fault(save, false, cards, plan, m);
-    if !frames::is_valid(v) {
-        return v;
+    let found = plan_faults::first_fault(save, false, cards, plan, m);
+    if !plan_faults::is_nothing(found) {
+        return complete(found, top, 0);
     }
     Verdict::Valid(top, pool_counts::peak::counted(save, plan))
 }
@@ -41,6 +43,6 @@ pub(crate) fn verdict(save: bool, cards: &[u8], plan: &[u16], m: u16) -> Verdict
         return verdict_on_late(save, cards, plan, m, top);
     }
     let most = pool_counts::below::most_of(save, plan, top);
-    let v = frames::first_fault(save, most.backlog < m, cards, plan, m);
-    complete(v, top, most.before)
+    let found = plan_faults::first_fault(save, most.backlog < m, cards, plan, m);
+    complete(found, top, most.before)
 }

@@ -1,11 +1,11 @@
--- `checker::frames::frame` meets its contract.
+-- `plan_faults::frame` meets its contract.
 -- Assumes nothing.
 use mathlib.Core.Path.{sym, _∙_}
 use native.Mathlib.Omega.{arith}
-use Rattle.checker.proofs.Judged.{says-no-cycle, says-shared, says-overfull, says-clear}
+use Rattle.plan_faults.proofs.Judged.{says-no-cycle, says-shared, says-overfull, says-clear}
 use borrow.Author.Needs.{needs}
-use Rattle.checker.proofs.frames.frame.Statement.{statement}
-use Rattle.checker.proofs.frames.frame.Tie as tie
+use Rattle.plan_faults.proofs.frame.Statement.{statement}
+use Rattle.plan_faults.proofs.frame.Tie as tie
 
 cast-if1 : tie.Need-cast-if1
 cast-if1 c = search needs

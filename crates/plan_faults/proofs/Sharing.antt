@@ -16,7 +16,7 @@ use Rattle.schedule.specs.Verdict.{shares}
 use Rattle.counting.proofs.Bits.{bit-and-off}
 use Rattle.counting.proofs.Sums.{sum-term-le}
 use Rattle.schedule.proofs.Exact.{apart-alone}
-use Rattle.checker.specs.Parts.{NoneAfter}
+use Rattle.plan_faults.specs.Faults.{NoneAfter}
 
 -- frame k has the card and the cycle of frame i
 abbrev same : List ℕ → List ℕ → ℕ → ℕ → Bool

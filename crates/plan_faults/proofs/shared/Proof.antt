@@ -1,10 +1,10 @@
--- `checker::frames::shared` meets its contract.
+-- `plan_faults::shared` meets its contract.
 -- Assumes nothing.
 use borrow.Author.Needs.{needs}
 use Prim.Native.Nat.{_-_}
-use Rattle.checker.proofs.Sharing.{Apart, apart-first, apart-cycle, apart-card, not-shared, is-shared}
-use Rattle.checker.proofs.frames.shared.Statement.{statement}
-use Rattle.checker.proofs.frames.shared.Tie as tie
+use Rattle.plan_faults.proofs.Sharing.{Apart, apart-first, apart-cycle, apart-card, not-shared, is-shared}
+use Rattle.plan_faults.proofs.shared.Statement.{statement}
+use Rattle.plan_faults.proofs.shared.Tie as tie
 
 abbrev Inv-loop : tie.InvT-loop
 Inv-loop cards plan i card cycle j₀ j = Apart cards plan i j

@@ -1,4 +1,4 @@
-// The faults of a plan, frame by frame in list order.
+// The faults of a plan for a list of cards, frame by frame in list order: the first one that is found, or nothing.
 ghost use mathlib.Core.Path.{_≡_};
 ghost use mathlib.Core.Bool.{true};
 ghost use Prim.Native.Nat.{_≤_, _<_};
@@ -7,11 +7,18 @@ ghost use lib.Dec.{leb};
 ghost use Rattle.header.specs.Limits.{maxFrames};
 ghost use Rattle.schedule.specs.Verdict.{shares};
 ghost use Rattle.pool_counts.specs.Counts.{backlogOf};
-ghost use Rattle.checker.specs.Parts.{Checking, NoneAfter, Roomy, isValid, frameVerdict, firstFault};
-use crate::Verdict;
+ghost use Rattle.plan_faults.specs.Faults.{Checking, NoneAfter, Roomy, isNothing, frameFault, firstFault};
 use counting::Cycle;
 use counting::Position;
 use header::limits;
+
+// The lowest position at fault with the first of its faults, or nothing.
+pub enum Found {
+    Nothing,
+    CycleMissing(Position),
+    CardShared(Position),
+    PoolOverfull(Position),
+}
 
 // Whether an earlier frame of the same card has frame i's cycle.
 fn shared(cards: &[u8], plan: &[u16], i: usize) -> bool
@@ -55,7 +62,7 @@ fn overfull(save: bool, roomy: bool, plan: &[u16], m: u16, i: usize) -> bool
     m <= pool_counts::backlog::backlog(save, plan, i)
 }
 
-// The verdict on frame i; a valid one has no T and no peak yet.
+// What is at fault with frame i.
 fn frame(
     save: bool,
     roomy: bool,
@@ -64,39 +71,38 @@ fn frame(
     m: u16,
     i: usize,
     latest: Cycle,
-) -> Verdict
+) -> Found
     requires { ⌜ Checking (now cards) (now plan) × (i < length (now cards)) × NoneAfter (now cards) (now plan) i (latest .0)
         × (roomy ≡ true → Roomy save m (now plan)) ⌝ }
-    ensures { λ r. ⌜ r ≡ frameVerdict save m (now (cards .entry)) (now (plan .entry)) i ⌝ }
+    ensures { λ r. ⌜ r ≡ frameFault save m (now (cards .entry)) (now (plan .entry)) i ⌝ }
 {
     let p = Position(i as u16);
     if plan[i] == 0 {
-        return Verdict::NoCycle(p);
+        return Found::CycleMissing(p);
     }
     if shares_card(cards, plan, i, latest) {
-        return Verdict::SharedCard(p);
+        return Found::CardShared(p);
     }
     if overfull(save, roomy, plan, m, i) {
-        return Verdict::Overfull(p);
+        return Found::PoolOverfull(p);
     }
-    Verdict::Valid(Cycle(0), 0)
+    Found::Nothing
 }
 
-pub(crate) fn is_valid(v: Verdict) -> bool
-    ensures { λ r. ⌜ r ≡ isValid v ⌝ }
+pub fn is_nothing(found: Found) -> bool
+    ensures { λ r. ⌜ r ≡ isNothing found ⌝ }
 {
-    match v {
-        Verdict::Valid(_, _) => true,
-        Verdict::NoCycle(_) => false,
-        Verdict::SharedCard(_) => false,
-        Verdict::Overfull(_) => false,
-        Verdict::Refused(_) => false,
+    match found {
+        Found::Nothing => true,
+        Found::CycleMissing(_) => false,
+        Found::CardShared(_) => false,
+        Found::PoolOverfull(_) => false,
     }
 }
 
-// The first fault of the list; a valid verdict has no T and no peak yet.
+// The first fault of the list. Pools are counted unless the plan is known to be roomy.
 //   latest[c]   no earlier frame of card c has a cycle after this one
-pub(crate) fn first_fault(save: bool, roomy: bool, cards: &[u8], plan: &[u16], m: u16) -> Verdict
+pub fn first_fault(save: bool, roomy: bool, cards: &[u8], plan: &[u16], m: u16) -> Found
     requires { ⌜ Checking (now cards) (now plan) × (roomy ≡ true → Roomy save m (now plan)) ⌝ }
     ensures { λ r. ⌜ r ≡ firstFault save m (now (cards .entry)) (now (plan .entry)) ⌝ }
 {
@@ -107,11 +113,11 @@ pub(crate) fn first_fault(save: bool, roomy: bool, cards: &[u8], plan: &[u16], m
         let c = counting::card_index(cards[i]);
         let late = latest[c];
         latest[c] = counting::larger(late, plan[i]);
-        let v = frame(save, roomy, cards, plan, m, i, Cycle(late));
+        let found = frame(save, roomy, cards, plan, m, i, Cycle(late));
         i += 1;
-        if !is_valid(v) {
-            return v;
+        if !is_nothing(found) {
+            return found;
         }
     }
-    Verdict::Valid(Cycle(0), 0)
+    Found::Nothing
 }

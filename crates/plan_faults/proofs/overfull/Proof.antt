@@ -1,9 +1,9 @@
--- `checker::frames::overfull` meets its contract.
+-- `plan_faults::overfull` meets its contract.
 -- Assumes nothing.
-use Rattle.checker.proofs.Judged.{not-overfull}
+use Rattle.plan_faults.proofs.Judged.{not-overfull}
 use borrow.Author.Needs.{needs}
-use Rattle.checker.proofs.frames.overfull.Statement.{statement}
-use Rattle.checker.proofs.frames.overfull.Tie as tie
+use Rattle.plan_faults.proofs.overfull.Statement.{statement}
+use Rattle.plan_faults.proofs.overfull.Tie as tie
 
 returns : tie.Need-returns
 returns c = not-overfull _ _ _ _ (c .before .before .pre .2 (c .if1 .taken)) (c .before .before .pre .0)

@@ -1,9 +1,9 @@
--- `checker::frames::shares_card` meets its contract.
+-- `plan_faults::shares_card` meets its contract.
 -- Assumes nothing.
-use Rattle.checker.proofs.Sharing.{not-shared-later}
+use Rattle.plan_faults.proofs.Sharing.{not-shared-later}
 use borrow.Author.Needs.{needs}
-use Rattle.checker.proofs.frames.shares_card.Statement.{statement}
-use Rattle.checker.proofs.frames.shares_card.Tie as tie
+use Rattle.plan_faults.proofs.shares_card.Statement.{statement}
+use Rattle.plan_faults.proofs.shares_card.Tie as tie
 
 mul-if1 : tie.Need-mul-if1
 mul-if1 c = search needs

@@ -1,13 +1,13 @@
--- `checker::frames::first_fault` meets its contract.
+-- `plan_faults::first_fault` meets its contract.
 -- Assumes nothing.
 use borrow.Author.Tests.{not-true, not-false}
 use borrow.Author.Needs.{needs}
 use Prim.Native.Nat.{_-_}
 use mathlib.Core.Path.{sym, _∙_}
 use native.Mathlib.Omega.{arith}
-use Rattle.checker.proofs.Judged.{Frames, frames-first, card-inside, none-after, first-fault, next-frame, no-fault}
-use Rattle.checker.proofs.frames.first_fault.Statement.{statement}
-use Rattle.checker.proofs.frames.first_fault.Tie as tie
+use Rattle.plan_faults.proofs.Judged.{Frames, frames-first, card-inside, none-after, first-fault, next-frame, no-fault}
+use Rattle.plan_faults.proofs.first_fault.Statement.{statement}
+use Rattle.plan_faults.proofs.first_fault.Tie as tie
 
 abbrev Inv-loop : tie.InvT-loop
 Inv-loop save roomy cards plan m latest₀ n i₀ latest i = Frames save m cards plan latest i
@@ -77,8 +77,8 @@ frame-requires c κs =
 add-i : tie.Need-add-i Inv-loop μ-loop
 add-i c = search needs
 
-is-valid-requires : tie.Need-is-valid-requires Inv-loop μ-loop
-is-valid-requires c κs = search needs
+is-nothing-requires : tie.Need-is-nothing-requires Inv-loop μ-loop
+is-nothing-requires c κs = search needs
 
 returns : tie.Need-returns Inv-loop μ-loop
 returns c =
@@ -86,9 +86,9 @@ returns c =
     let checking = c .before .before .before .before .before .before .before .before .before .before .before .pre .0 in
     let inside = c .before .before .before .before .before .before .before .loop-test .taken in
     let card-is = c .before .before .before .before .before .card-index .ensures in
-    let verdict-is = c .before .before .frame .ensures in
-    let valid-is = c .before .is-valid .ensures in
-    first-fault inv checking inside card-is verdict-is (sym valid-is ∙ not-true _ (c .if1 .taken))
+    let found-is = c .before .before .frame .ensures in
+    let nothing-is = c .before .is-nothing .ensures in
+    first-fault inv checking inside card-is found-is (sym nothing-is ∙ not-true _ (c .if1 .taken))
 
 loop-less : tie.Need-loop-less Inv-loop μ-loop
 loop-less c = search needs
@@ -99,10 +99,10 @@ loop-again c =
     let checking = c .before .before .before .before .before .before .before .before .before .before .before .pre .0 in
     let inside = c .before .before .before .before .before .before .before .loop-test .taken in
     let card-is = c .before .before .before .before .before .card-index .ensures in
-    let verdict-is = c .before .before .frame .ensures in
-    let valid-is = c .before .is-valid .ensures in
+    let found-is = c .before .before .frame .ensures in
+    let nothing-is = c .before .is-nothing .ensures in
     let latest-is = c .before .before .before .larger .ensures in
-    next-frame inv checking inside card-is verdict-is (sym valid-is ∙ not-false _ (c .if1 .left)) latest-is
+    next-frame inv checking inside card-is found-is (sym nothing-is ∙ not-false _ (c .if1 .left)) latest-is
 
 returns-2 : tie.Need-returns-2 Inv-loop μ-loop
 returns-2 c = no-fault (c .before .loop .inv) (c .before .before .before .before .pre .0) (c .loop-test .left)
@@ -125,7 +125,7 @@ first-fault-spec =
     array-write-latest
     frame-requires
     add-i
-    is-valid-requires
+    is-nothing-requires
     returns
     loop-less
     loop-again
