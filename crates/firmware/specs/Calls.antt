@@ -12,7 +12,8 @@ use Rattle.checker.specs.Check.{checkOf}
 use Rattle.checker.specs.Numbers.{numbersOf as numbersOfCheck}
 use Rattle.plan_run.specs.Run.{ranOf}
 use Rattle.plan_run.specs.Numbers.{numbersOf as numbersOfRun}
-use Rattle.printing.specs.Printed.{printed, bytesIn, bufferAfter as textAfter}
+use Rattle.print_lines.specs.Put.{bytesIn, bufferAfter as textAfter}
+use Rattle.printing.specs.Printed.{printed}
 use Rattle.saver.specs.Calls.{newOf, saveOf, closeOf}
 use Rattle.saver.specs.declared.Saver.{Saver}
 use Rattle.saver.specs.declared.Answer.{Answer as SaverAnswer}

@@ -5,7 +5,8 @@ ghost use Rattle.ticket.specs.Ticket.{parse};
 ghost use Rattle.planner.specs.Plan.{planOf, bufferAfter};
 ghost use Rattle.planner.specs.Numbers.{numbersOf};
 ghost use Rattle.planner.specs.Demand3.{Demand3};
-ghost use Rattle.printing.specs.Printed.{printed, bytesIn, bufferAfter as textAfter};
+ghost use Rattle.print_lines.specs.Put.{bytesIn, bufferAfter as textAfter};
+ghost use Rattle.printing.specs.Printed.{printed};
 ghost use Rattle.firmware.specs.Answers.{planAnswer};
 use counting::Cycle;
 

@@ -19,8 +19,9 @@ use Rattle.planner.specs.declared.Answer.{Answer}
 use Rattle.planner.specs.declared.Answer.the-variants.{Planned, Refused}
 use Rattle.planner.proofs.Plans.{plan-length}
 use Rattle.planner.proofs.Demand.{so-of-call}
-use Rattle.printing.specs.Printed.{textOf, printed, refusalText}
-use Rattle.printing.specs.Put.{Made}
+use Rattle.print_lines.specs.Put.{refusalText}
+use Rattle.printing.specs.Printed.{textOf, printed}
+use Rattle.printing.specs.Made.{Made}
 
 module _ (t before : List ℕ) (n : length before ≡ maxFrames) where
   module _ (h : Header) (cards : List ℕ) (e : parse t ≡ accepted h cards) where

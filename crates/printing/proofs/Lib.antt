@@ -4,4 +4,3 @@ pub mod Calls
 pub mod Listed
 pub mod Outcome
 pub mod Short
-pub mod Puts

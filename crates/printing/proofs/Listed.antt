@@ -2,7 +2,7 @@
 -- Assumes nothing.
 use Prim.Native.Nat.{ℕ, zero, suc, _+_, _-_, _*_, _/_, _≤_, _<_}
 use mathlib.Core.Path.{_≡_, refl, sym, ap, _∙_}
-use mathlib.Core.List.{List, [], _∷_, _++_, append-assoc}
+use mathlib.Core.List.{List, [], _∷_, _++_}
 use native.Mathlib.Omega.{arith}
 use native.Mathlib.Numerals.{add-one}
 use lib.ListN.{length, getD, take, drop, set, length-set, length-append}
@@ -20,29 +20,11 @@ use Rattle.frame_lines.specs.Lines.{lineDigits}
 use Rattle.ticket.specs.Ticket.{lineOf}
 use Rattle.ticket.proofs.Main.{accepted-length, accepted-few, line-card}
 use Rattle.planner.specs.Plan.{planFor}
-use Rattle.printing.specs.Printed.{frameLine, frameLines, planText, textOf, printed, refusalText}
-use Rattle.printing.specs.Put.{Made, Put}
+use Rattle.print_lines.specs.Put.{Put}
+use Rattle.print_lines.proofs.Outcome.{room}
+use Rattle.printing.specs.Printed.{frameLine, frameLines, planText, textOf, printed}
+use Rattle.printing.specs.Made.{Made}
 use Rattle.counting.proofs.Parts.{sets-append, sets-length, two-bytes}
-use Rattle.printing.proofs.Outcome.{room}
-
--- FF, the number and the end of the line
-pub put-refusal :
-    (l x y : List ℕ) (number : ℕ) → x ≡ sets l 0 (hex 2 255) → y ≡ sets x 2 (hex 2 number) → set y 4 endByte ≡ sets l 0 (refusalText number)
-unfolding refusalText
-put-refusal l x y number e f =
-    let a = hex 2 255 in
-    let b = hex 2 number in
-    let four : length (a ++ b) ≡ 4 = omega (arith, length-append a b, length-hex 2 255, length-hex 2 number) in
-    rw (f, e, sets-append l 0 a b 2 (rw (length-hex 2 255)), sets-append l 0 (a ++ b) endOfLine 4 (rw four), append-assoc a b endOfLine)
-
-pub refusal-long : (l x y : List ℕ) (mark number : ℕ) → x ≡ sets l 0 (hex 2 mark) → y ≡ sets x 2 (hex 2 number) → length y ≡ length l
-refusal-long l x y mark number e f = sets-length x y 2 (hex 2 number) f ∙ sets-length l x 0 (hex 2 mark) e
-
-pub refusal-length : (number : ℕ) → length (refusalText number) ≡ 5
-unfolding refusalText
-refusal-length number =
-    let b = hex 2 number ++ endOfLine in
-    omega (arith, length-append (hex 2 255) b, length-append (hex 2 number) endOfLine, length-hex 2 255, length-hex 2 number)
 
 -- T and the end of the line
 put-head : (l x : List ℕ) (T : ℕ) → x ≡ sets l 0 (hex 4 T) → set x 4 endByte ≡ sets l 0 (hex 4 T ++ endOfLine)

@@ -7,7 +7,8 @@ use native.Mathlib.Omega.{arith}
 use lib.ListN.{length, take}
 use Rattle.counting.specs.Count.{written}
 use Rattle.ticket.proofs.Main as ticket
-use Rattle.printing.specs.Printed.{textOf, printed, bytesIn, bufferAfter}
+use Rattle.printing.specs.Printed.{textOf, printed}
+use Rattle.print_lines.specs.Put.{bytesIn, bufferAfter}
 use Rattle.printing.specs.Sizes.{inputBytes, longestText}
 use Rattle.printing.specs.Cases.{Case, cases}
 use Rattle.printing.proofs.Cases as table

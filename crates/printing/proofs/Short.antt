@@ -10,9 +10,11 @@ use Rattle.counting.specs.Count.{written}
 use Rattle.ticket.specs.Ticket.{Parsed, accepted, refused, parse}
 use Rattle.ticket.proofs.Main as ticket
 use Rattle.planner.specs.Plan.{planFor}
-use Rattle.printing.specs.Printed.{textOf, printed, bytesIn, bufferAfter}
+use Rattle.printing.specs.Printed.{textOf, printed}
+use Rattle.print_lines.specs.Put.{bytesIn, bufferAfter}
+use Rattle.print_lines.proofs.Outcome.{refusal-length}
 use Rattle.printing.specs.Sizes.{longestText}
-use Rattle.printing.proofs.Listed.{plan-long, refusal-length}
+use Rattle.printing.proofs.Listed.{plan-long}
 
 text-short : (t : List ℕ) (p : Parsed) → parse t ≡ p → length (textOf p) ≤ longestText
 unfolding textOf

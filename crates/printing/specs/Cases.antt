@@ -2,7 +2,8 @@
 -- Assumes nothing.
 use Prim.Native.Nat.{ℕ}
 use mathlib.Core.List.{List, [], _∷_}
-use Rattle.printing.specs.Printed.{printed, refusalText}
+use Rattle.print_lines.specs.Put.{refusalText}
+use Rattle.printing.specs.Printed.{printed}
 
 -- a text printed, and the text that it should be
 pub record Case : Type 0 where

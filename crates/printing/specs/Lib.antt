@@ -1,4 +1,4 @@
 pub mod Printed
 pub mod Sizes
-pub mod Put
+pub mod Made
 pub mod Cases

@@ -2,7 +2,8 @@
 ghost use mathlib.Core.Path.{_≡_};
 ghost use lib.ListN.{length, replicate};
 ghost use Rattle.counting.specs.Count.{written};
-ghost use Rattle.printing.specs.Printed.{printed, bytesIn, bufferAfter, Front};
+ghost use Rattle.print_lines.specs.Put.{bytesIn, bufferAfter};
+ghost use Rattle.printing.specs.Printed.{printed, Front};
 ghost use Rattle.printing.specs.Sizes.{inputBytes, longestText};
 use header::limits;
 
@@ -40,7 +41,7 @@ pub fn print(ticket: &[u8], out: &mut [u8]) -> usize
     let mut plan = [0u16; limits::FRAMES];
     let answer = planner::plan(ticket, &mut plan);
     match answer {
-        planner::Answer::Refused(number) => lines::refusal(number, out),
+        planner::Answer::Refused(number) => print_lines::refusal(number, out),
         planner::Answer::Planned(cycles) => lines::plan(ticket, cycles, &plan, out),
     }
 }

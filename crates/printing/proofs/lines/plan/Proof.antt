@@ -5,7 +5,7 @@ use mathlib.Core.Path.{_≡_}
 use native.Mathlib.Omega.{arith}
 use lib.Seq.{sets}
 use Rattle.printing.proofs.Listed.{linesFrom, head-length, long, frames-is, frames-few, no-lines, next-line, put-all, text-long}
-use Rattle.printing.proofs.Outcome.{no-room}
+use Rattle.print_lines.proofs.Outcome.{no-room}
 use borrow.Author.Needs.{needs}
 use Rattle.printing.proofs.lines.plan.Statement.{statement}
 use Rattle.printing.proofs.lines.plan.Tie as tie

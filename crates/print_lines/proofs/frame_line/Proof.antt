@@ -1,11 +1,11 @@
--- `printing::lines::frame_line` meets its contract.
+-- `print_lines::frame_line` meets its contract.
 -- Assumes nothing.
 use native.Mathlib.Omega.{arith}
 use lib.ListN.{length-set}
-use Rattle.printing.proofs.Puts.{put-line, line-length}
+use Rattle.print_lines.proofs.Puts.{put-line, line-length}
 use borrow.Author.Needs.{needs}
-use Rattle.printing.proofs.lines.frame_line.Statement.{statement}
-use Rattle.printing.proofs.lines.frame_line.Tie as tie
+use Rattle.print_lines.proofs.frame_line.Statement.{statement}
+use Rattle.print_lines.proofs.frame_line.Tie as tie
 
 put4-requires : tie.Need-put4-requires
 put4-requires c κs = search needs

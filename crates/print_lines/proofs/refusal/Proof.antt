@@ -1,12 +1,11 @@
--- `printing::lines::refusal` meets its contract.
+-- `print_lines::refusal` meets its contract.
 -- Assumes nothing.
 use native.Mathlib.Omega.{arith}
 use lib.ListN.{length-set}
-use Rattle.printing.proofs.Listed.{put-refusal, refusal-length, refusal-long}
-use Rattle.printing.proofs.Outcome.{no-room, room}
+use Rattle.print_lines.proofs.Outcome.{no-room, room, put-refusal, refusal-length, refusal-long}
 use borrow.Author.Needs.{needs}
-use Rattle.printing.proofs.lines.refusal.Statement.{statement}
-use Rattle.printing.proofs.lines.refusal.Tie as tie
+use Rattle.print_lines.proofs.refusal.Statement.{statement}
+use Rattle.print_lines.proofs.refusal.Tie as tie
 
 returns : tie.Need-returns
 returns c = no-room _ _ (omega (arith, refusal-length (c .before .before .args .number)))

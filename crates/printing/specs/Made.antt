@@ -1,4 +1,4 @@
--- What the functions behind `print` ask for and leave.
+-- What the function that prints a plan asks for.
 -- Assumes nothing.
 use Prim.Native.Nat.{ℕ, _≤_}
 use mathlib.Core.Path.{_≡_}
@@ -7,7 +7,6 @@ use lib.ListN.{length, take}
 use Rattle.header.specs.declared.Header.{Header}
 use Rattle.ticket.specs.Ticket.{accepted, parse}
 use Rattle.planner.specs.Plan.{planFor}
-use Rattle.printing.specs.Printed.{bytesIn, bufferAfter}
 
 -- a ticket that is accepted, with its T and its plan at the front of a list
 pub record Made (ticket : List ℕ) (T : ℕ) (plan : List ℕ) : Type 0 where
@@ -17,8 +16,3 @@ pub record Made (ticket : List ℕ) (T : ℕ) (plan : List ℕ) : Type 0 where
   pub room : length cards ≤ length plan
   pub length-is : T ≡ planFor (header .mode) (header .pool) cards .T
   pub cycles : take (length cards) plan ≡ planFor (header .mode) (header .pool) cards .cycles
-
--- a text is printed over the front of `before` if there is room, and the number of its bytes answered
-pub record Put (text before after : List ℕ) (bytes : ℕ) : Type 0 where
-  pub answer : bytes ≡ bytesIn text (length before)
-  pub buffer : after ≡ bufferAfter text before

@@ -1,0 +1,2 @@
+pub mod Outcome
+pub mod Puts
