@@ -17,7 +17,7 @@ use Rattle.checker.specs.Check.{checkOf}
 use Rattle.plan_run.specs.Run.{ranOf}
 use Rattle.print_lines.specs.Put.{refusalText, bytesIn}
 use Rattle.printing.specs.Printed.{frameLines, planText, textOf}
-use Rattle.printing.specs.Printed as printing
+use Rattle.print_lines.specs.Put as put
 use Rattle.saver.specs.Calls.{newOf, saveOf, closeOf}
 use Rattle.dock.specs.State.{startOf, memoryStarted}
 use Rattle.dock.specs.Drive.{recordAfter, bytesAfter, driveOf, memoryDriven}
@@ -27,6 +27,6 @@ use Rattle.firmware.specs.Cases.{Case, call, expected, cases}
 pub cases-hold : map (λ (x : Case). resultOf (call x)) cases ≡ map expected cases
 unfolding saveAndKeep greedyWriting lazyPrefetching run outcome peak stepsTo verdictOnRead verdictOnSave digit digits number isLine digitOf
     hex headerOf withinLimits heading cardAt lineFault linesFault partFault parse zeros lineOf linePlace lineTexts ticketText planOf bufferAfter
-    checkOf ranOf frameLines planText refusalText textOf bytesIn printing.bufferAfter newOf saveOf closeOf startOf memoryStarted recordAfter
+    checkOf ranOf frameLines planText refusalText textOf bytesIn put.bufferAfter newOf saveOf closeOf startOf memoryStarted recordAfter
     bytesAfter driveOf memoryDriven
 cases-hold = refl

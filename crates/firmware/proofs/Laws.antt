@@ -2,10 +2,8 @@
 -- Assumes nothing.
 use Prim.Native.Nat.{ℕ}
 use mathlib.Core.Path.{_≡_, refl, ap, _∙_}
-use mathlib.Core.Bool.{Bool}
 use mathlib.Core.List.{List}
 use lib.ListN.{length}
-use Rattle.counting.specs.declared.Cycle.{Cycle}
 use Rattle.ticket.specs.Ticket.{parse, refusalOf, countsOf}
 use Rattle.planner.specs.Plan.{planOf, bufferAfter}
 use Rattle.planner.specs.Numbers.{numbersOf}
@@ -15,12 +13,9 @@ use Rattle.checker.specs.Check.{checkOf}
 use Rattle.checker.specs.Numbers.{numbersOf as numbersOfCheck}
 use Rattle.checker.specs.Exact.{Exact}
 use Rattle.checker.specs.declared.Verdict.{Verdict}
-use Rattle.plan_run.specs.Numbers.{completeIn, neededIn, numbersOf as numbersOfRun}
-use Rattle.plan_run.specs.declared.Run.{Run}
-use Rattle.plan_run.specs.declared.Answer.the-variants.{Ran}
-use Rattle.firmware.specs.Answers.{countsAnswer, planAnswer, checkAnswer, runAnswer}
-use Rattle.firmware.specs.declared.plans.PlanAnswer.{PlanAnswer}
-use Rattle.firmware.specs.declared.checks.CheckAnswer.{CheckAnswer}
+use Rattle.plain_answers.specs.Answers.{countsAnswer, planAnswer, checkAnswer}
+use Rattle.plain_answers.specs.declared.plans.PlanAnswer.{PlanAnswer}
+use Rattle.plain_answers.specs.declared.checks.CheckAnswer.{CheckAnswer}
 
 -- the counts of a ticket, with its number beside them
 pub counted :
@@ -45,18 +40,3 @@ module _ (t cycles : List ℕ) (v : Verdict) (r : CheckAnswer) (e : r ≡ checkA
       × ((numbersOfCheck v ≡ numbersOfCheck (checkOf (parse t) cycles)) × Exact t cycles (numbersOfCheck v .verdict) (numbersOfCheck v .position .0))
       → (r ≡ checkAnswer (numbersOfCheck (checkOf (parse t) cycles))) × Exact t cycles (r .verdict) (r .position .0)
   checked p = (e ∙ ap checkAnswer (p .1 .0), rw e (p .1 .1))
-
--- the numbers of a run, its outcome taken apart
-pub ran :
-    (run : Run) (whole : Bool) (needed : Cycle) → whole ≡ completeIn (run .outcome) → needed ≡ neededIn (run .outcome)
-    → record {
-      refusal = 0;
-      broken = run .broken;
-      complete = whole;
-      delivered = run .delivered;
-      ended = run .ended;
-      needed = needed;
-      peak = run .peak;
-    }
-    ≡ runAnswer (numbersOfRun (Ran run))
-ran run whole needed e f = rw (e, f) refl

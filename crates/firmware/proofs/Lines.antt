@@ -8,7 +8,7 @@ use native.Mathlib.Omega.{arith}
 use lib.ListN.{length, take, drop}
 use Rattle.ticket.specs.Ticket.{parse, lineRefusalOf, lineStart, lineOf, linePlace}
 use Rattle.ticket.proofs.Answers.{no-line, no-place, line-length, cut-line, the-line, its-place}
-use Rattle.firmware.specs.Answers.{linePart}
+use Rattle.plain_answers.specs.Answers.{linePart}
 
 module _ (t : List ℕ) (p : ℕ) where
   -- no line is empty, and an empty part is no line

@@ -22,13 +22,13 @@ use Rattle.dock.specs.Drive.{driveOf, memoryDriven}
 use Rattle.dock.specs.declared.Dock.{Dock}
 use Rattle.dock.specs.declared.Step.{Step}
 use Rattle.dock.specs.declared.Driven.{Driven}
-use Rattle.firmware.specs.Answers.{ticketAnswer, linePart, countsAnswer, planAnswer, checkAnswer, runAnswer}
-use Rattle.firmware.specs.declared.tickets.TicketAnswer.{TicketAnswer}
-use Rattle.firmware.specs.declared.tickets.Part.{Part}
-use Rattle.firmware.specs.declared.tickets.CountsAnswer.{CountsAnswer}
-use Rattle.firmware.specs.declared.plans.PlanAnswer.{PlanAnswer}
-use Rattle.firmware.specs.declared.checks.CheckAnswer.{CheckAnswer}
-use Rattle.firmware.specs.declared.checks.RunAnswer.{RunAnswer}
+use Rattle.plain_answers.specs.Answers.{ticketAnswer, linePart, countsAnswer, planAnswer, checkAnswer, runAnswer}
+use Rattle.plain_answers.specs.declared.tickets.TicketAnswer.{TicketAnswer}
+use Rattle.plain_answers.specs.declared.tickets.Part.{Part}
+use Rattle.plain_answers.specs.declared.tickets.CountsAnswer.{CountsAnswer}
+use Rattle.plain_answers.specs.declared.plans.PlanAnswer.{PlanAnswer}
+use Rattle.plain_answers.specs.declared.checks.CheckAnswer.{CheckAnswer}
+use Rattle.plain_answers.specs.declared.checks.RunAnswer.{RunAnswer}
 
 -- A call, with a ticket and what else it takes: a lent buffer as it is before the call, a plan, a position, a saver's record, memory, a step.
 pub data Call : Type 0 where

@@ -7,30 +7,9 @@ ghost use Rattle.planner.specs.Numbers.{numbersOf};
 ghost use Rattle.planner.specs.Demand3.{Demand3};
 ghost use Rattle.print_lines.specs.Put.{bytesIn, bufferAfter as textAfter};
 ghost use Rattle.printing.specs.Printed.{printed};
-ghost use Rattle.firmware.specs.Answers.{planAnswer};
-use counting::Cycle;
-
-// A plan of so many cycles.
-#[repr(C)]
-pub struct PlanAnswer {
-    pub refusal: u8,
-    pub cycles: Cycle,
-}
-
-fn plan_answer(answer: planner::Answer) -> PlanAnswer
-    ensures { λ r. ⌜ r ≡ planAnswer (numbersOf answer) ⌝ }
-{
-    match answer {
-        planner::Answer::Planned(cycles) => PlanAnswer {
-            refusal: 0,
-            cycles: cycles,
-        },
-        planner::Answer::Refused(number) => PlanAnswer {
-            refusal: number,
-            cycles: Cycle(0),
-        },
-    }
-}
+ghost use Rattle.plain_answers.specs.Answers.{planAnswer};
+use plain_answers::plans::PlanAnswer;
+use plain_answers::plans::plan_answer;
 
 // Fills the first places of `plan`. `demand` is demand 3, about the T answered and the plan that now stands there.
 #[no_mangle]

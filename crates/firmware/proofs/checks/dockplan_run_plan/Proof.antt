@@ -1,7 +1,7 @@
 -- `firmware::checks::dockplan_run_plan` meets its contract.
 -- Assumes nothing.
 use mathlib.Core.Path.{ap, _∙_}
-use Rattle.firmware.specs.Answers.{runAnswer}
+use Rattle.plain_answers.specs.Answers.{runAnswer}
 use borrow.Author.Needs.{needs}
 use Rattle.firmware.proofs.checks.dockplan_run_plan.Statement.{statement}
 use Rattle.firmware.proofs.checks.dockplan_run_plan.Tie as tie

@@ -1,7 +1,7 @@
 -- `firmware::tickets::dockplan_parse` meets its contract.
 -- Assumes nothing.
 use mathlib.Core.Path.{ap, _∙_}
-use Rattle.firmware.specs.Answers.{ticketAnswer}
+use Rattle.plain_answers.specs.Answers.{ticketAnswer}
 use borrow.Author.Needs.{needs}
 use Rattle.firmware.proofs.tickets.dockplan_parse.Statement.{statement}
 use Rattle.firmware.proofs.tickets.dockplan_parse.Tie as tie

@@ -1,11 +1,11 @@
--- `firmware::plans::plan_answer` meets its contract.
+-- `plain_answers::plans::plan_answer` meets its contract.
 -- Assumes nothing.
 use mathlib.Core.Path.{sym, ap}
 use Rattle.planner.specs.Numbers.{numbersOf}
-use Rattle.firmware.specs.Answers.{planAnswer}
+use Rattle.plain_answers.specs.Answers.{planAnswer}
 use borrow.Author.Needs.{needs}
-use Rattle.firmware.proofs.plans.plan_answer.Statement.{statement}
-use Rattle.firmware.proofs.plans.plan_answer.Tie as tie
+use Rattle.plain_answers.proofs.plans.plan_answer.Statement.{statement}
+use Rattle.plain_answers.proofs.plans.plan_answer.Tie as tie
 
 enum-known-answer : tie.Need-enum-known-answer
 enum-known-answer c = search needs

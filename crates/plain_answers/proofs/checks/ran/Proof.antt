@@ -1,9 +1,9 @@
--- `firmware::checks::ran` meets its contract.
+-- `plain_answers::checks::ran` meets its contract.
 -- Assumes nothing.
-use Rattle.firmware.proofs.Laws.{ran}
+use Rattle.plain_answers.proofs.Laws.{ran}
 use borrow.Author.Needs.{needs}
-use Rattle.firmware.proofs.checks.ran.Statement.{statement}
-use Rattle.firmware.proofs.checks.ran.Tie as tie
+use Rattle.plain_answers.proofs.checks.ran.Statement.{statement}
+use Rattle.plain_answers.proofs.checks.ran.Tie as tie
 
 is-complete-requires : tie.Need-is-complete-requires
 is-complete-requires c κs = search needs

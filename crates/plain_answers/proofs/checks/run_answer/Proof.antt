@@ -1,11 +1,11 @@
--- `firmware::checks::run_answer` meets its contract.
+-- `plain_answers::checks::run_answer` meets its contract.
 -- Assumes nothing.
 use mathlib.Core.Path.{sym, ap, _∙_}
 use Rattle.plan_run.specs.Numbers.{numbersOf}
-use Rattle.firmware.specs.Answers.{runAnswer}
+use Rattle.plain_answers.specs.Answers.{runAnswer}
 use borrow.Author.Needs.{needs}
-use Rattle.firmware.proofs.checks.run_answer.Statement.{statement}
-use Rattle.firmware.proofs.checks.run_answer.Tie as tie
+use Rattle.plain_answers.proofs.checks.run_answer.Statement.{statement}
+use Rattle.plain_answers.proofs.checks.run_answer.Tie as tie
 
 enum-known-answer : tie.Need-enum-known-answer
 enum-known-answer c = search needs

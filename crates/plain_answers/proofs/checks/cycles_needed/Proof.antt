@@ -1,10 +1,10 @@
--- `firmware::checks::cycles_needed` meets its contract.
+-- `plain_answers::checks::cycles_needed` meets its contract.
 -- Assumes nothing.
 use mathlib.Core.Path.{sym, ap}
 use Rattle.plan_run.specs.Numbers.{neededIn}
 use borrow.Author.Needs.{needs}
-use Rattle.firmware.proofs.checks.cycles_needed.Statement.{statement}
-use Rattle.firmware.proofs.checks.cycles_needed.Tie as tie
+use Rattle.plain_answers.proofs.checks.cycles_needed.Statement.{statement}
+use Rattle.plain_answers.proofs.checks.cycles_needed.Tie as tie
 
 enum-known-outcome : tie.Need-enum-known-outcome
 enum-known-outcome c = search needs

@@ -1,11 +1,11 @@
--- `firmware::tickets::ticket_answer` meets its contract.
+-- `plain_answers::tickets::ticket_answer` meets its contract.
 -- Assumes nothing.
 use mathlib.Core.Path.{sym, ap}
 use Rattle.header.specs.Numbers.{numbersOf}
-use Rattle.firmware.specs.Answers.{ticketAnswer}
+use Rattle.plain_answers.specs.Answers.{ticketAnswer}
 use borrow.Author.Needs.{needs}
-use Rattle.firmware.proofs.tickets.ticket_answer.Statement.{statement}
-use Rattle.firmware.proofs.tickets.ticket_answer.Tie as tie
+use Rattle.plain_answers.proofs.tickets.ticket_answer.Statement.{statement}
+use Rattle.plain_answers.proofs.tickets.ticket_answer.Tie as tie
 
 enum-known-answer : tie.Need-enum-known-answer
 enum-known-answer c = search needs

@@ -9,12 +9,12 @@ use Rattle.ticket.specs.Ticket.{Parsed, refusalOf, lineOf, linePlace, countsOf}
 use Rattle.planner.specs.Numbers as planner
 use Rattle.checker.specs.Numbers as checker
 use Rattle.plan_run.specs.Numbers as replay
-use Rattle.firmware.specs.declared.tickets.TicketAnswer.{TicketAnswer}
-use Rattle.firmware.specs.declared.tickets.Part.{Part}
-use Rattle.firmware.specs.declared.tickets.CountsAnswer.{CountsAnswer}
-use Rattle.firmware.specs.declared.plans.PlanAnswer.{PlanAnswer}
-use Rattle.firmware.specs.declared.checks.CheckAnswer.{CheckAnswer}
-use Rattle.firmware.specs.declared.checks.RunAnswer.{RunAnswer}
+use Rattle.plain_answers.specs.declared.tickets.TicketAnswer.{TicketAnswer}
+use Rattle.plain_answers.specs.declared.tickets.Part.{Part}
+use Rattle.plain_answers.specs.declared.tickets.CountsAnswer.{CountsAnswer}
+use Rattle.plain_answers.specs.declared.plans.PlanAnswer.{PlanAnswer}
+use Rattle.plain_answers.specs.declared.checks.CheckAnswer.{CheckAnswer}
+use Rattle.plain_answers.specs.declared.checks.RunAnswer.{RunAnswer}
 
 -- what the header of a ticket says
 abbrev pub ticketAnswer : header.Numbers → TicketAnswer

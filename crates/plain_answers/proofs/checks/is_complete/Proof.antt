@@ -1,10 +1,10 @@
--- `firmware::checks::is_complete` meets its contract.
+-- `plain_answers::checks::is_complete` meets its contract.
 -- Assumes nothing.
 use mathlib.Core.Path.{sym, ap}
 use borrow.Author.Needs.{needs}
 use Rattle.plan_run.specs.Numbers.{completeIn}
-use Rattle.firmware.proofs.checks.is_complete.Statement.{statement}
-use Rattle.firmware.proofs.checks.is_complete.Tie as tie
+use Rattle.plain_answers.proofs.checks.is_complete.Statement.{statement}
+use Rattle.plain_answers.proofs.checks.is_complete.Tie as tie
 
 enum-told : tie.Need-enum-told
 enum-told c = search needs

@@ -1,11 +1,11 @@
--- `firmware::checks::check_answer` meets its contract.
+-- `plain_answers::checks::check_answer` meets its contract.
 -- Assumes nothing.
 use mathlib.Core.Path.{sym, ap, _∙_}
 use Rattle.checker.specs.Numbers.{numbersOf}
-use Rattle.firmware.specs.Answers.{checkAnswer}
+use Rattle.plain_answers.specs.Answers.{checkAnswer}
 use borrow.Author.Needs.{needs}
-use Rattle.firmware.proofs.checks.check_answer.Statement.{statement}
-use Rattle.firmware.proofs.checks.check_answer.Tie as tie
+use Rattle.plain_answers.proofs.checks.check_answer.Statement.{statement}
+use Rattle.plain_answers.proofs.checks.check_answer.Tie as tie
 
 enum-known-verdict : tie.Need-enum-known-verdict
 enum-known-verdict c = search needs
