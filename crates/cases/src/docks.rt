@@ -85,31 +85,3 @@ pub(crate) fn driven(t: &[u8], text: &[u8]) {
     result(r, &memory);
     steps(r.dock, text, &mut memory);
 }
-
-pub(crate) fn all() {
-    tables::each(
-        b"\nTHE DOCK\n\
-        dock::start makes the dock of a ticket in lent memory, here four places filled with 77: a byte for each frame has its card, and 128\n\
-        more while the frame is held. dock::drive makes a step. A step against the rules breaks the dock off, and nothing changes then.\n\n\
-        \x20                                                      handed         cycles  broken     any  card 0  card 1\n\
-        ticket, steps                    refusal frames   pool   over   held  ended     off    read    read    read  memory afterwards\n#\
-        01000200020003\n00\n00\n01\n read 0,end,read 1,read 2,end,end,|\
-        01000200020003\n00\n00\n01\n read 1,read 2,end,drop 2,read 0,end,read 2,end,|\
-        01000200020003\n00\n00\n01\n drop 0,read 0,end,drop 0,end,read 0,read 1,|\
-        01000200020003\n00\n00\n01\n read 1,end,read 1,end,read 0,end,|\
-        01000200020003\n00\n00\n01\n read 2,drop 2,end,read 0,|\
-        01000200020003\n00\n00\n01\n read 0,end,read 0,drop 1,|\
-        01000200020003\n00\n00\n01\n read 0,read 1,end,read 2,|\
-        01000200010003\n00\n00\n01\n read 1,read 2,end,read 0,end,|\
-        01000200020003\n00\n00\n01\n read 3,end,read 0,|\
-        01000200020003\n00\n00\n01\n drop 3,end,|\
-        01000200020000\n end,read 0,end,|\
-        01010200020003\n00\n00\n01\n read 0,end,|\
-        01020200020003\n00\n00\n01\n read 0,end,|\
-        01000200020004\n00\n00\n01\n00\n |\
-        01000200020005\n00\n00\n01\n00\n01\n |\
-        \nA step with memory of two places for three frames is refused; the same step with the dock's own memory is made.\n\n#\
-        01000200020003\n00\n00\n01\n read 0,read 2!read 2,|",
-        tables::DRIVEN,
-    );
-}

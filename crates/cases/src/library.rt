@@ -1,7 +1,6 @@
 // The exported calls of the firmware library: each call's whole answer, in numbers.
 use crate::checks;
 use crate::output;
-use crate::tables;
 use counting::Position;
 use firmware::checks::dockplan_check;
 use firmware::checks::dockplan_run_plan;
@@ -70,41 +69,4 @@ pub(crate) fn called(t: &[u8], text: &[u8]) {
     output::pad(0, 3);
     output::list(given, 3, 3);
     judging(t, given);
-}
-
-// The last table is the saver of document 01's first save: list 0 0 1 with a pool of 2, and a card that is not there, a save too late and a close
-// too many; then a saver that is refused.
-pub(crate) fn all() {
-    tables::each(
-        b"\nTHE LIBRARY\n\
-        The exported calls, dockplan_parse and so on. parse: refusal, edition, mode, cards, pool, frames. line at position 1: offset, length,\n\
-        line_refusal. counts: refusal, cards 0 and 1. plan: refusal, T, the buffer, three places of 9. print: bytes, into 60. check: refusal,\n\
-        verdict (1 valid, 2 cycle 0, 3 shares a card, 4 overfull), position, T, peak. run_plan: refusal, broken off, complete, handed over,\n\
-        cycles ended, cycles needed, peak. check and run_plan are given the plan before them.\n\n\
-        ticket                             parse              line         counts      plan           print     given       check             run_plan\n#\
-        \x20122|\
-        02000200020000\n 122|\
-        01030200020000\n 122|\
-        01002100020000\n 122|\
-        01000204010000\n 122|\
-        01000200021001\n 122|\
-        01000200020003\n00\n00\n 122|\
-        01000200020003\n00\n02\n01\n 122|\
-        01000200020000\n0 122|\
-        01000200020004\n00\n00\n01\n00\n 122|\
-        01020200020003\n00\n00\n01\n 122|\
-        01000200020003\n00\n00\n01\n 122|\
-        01000200020003\n00\n00\n01\n 121|\
-        01010200020003\n00\n00\n01\n 122|\
-        01000200020003\n00\n00\n01\n 120|\
-        01000200020003\n00\n00\n01\n 112|\
-        01000200020003\n00\n00\n01\n 212|\
-        01000200020003\n00\n00\n01\n 012|",
-        tables::CALLED,
-    );
-    tables::each(
-        b"\nThe saver's calls, as above: refusal, cycle, cards, pool, taken, made, waiting, closing, entries.\n\n#\
-        22 2001c0c|D2 0|",
-        tables::SAVED_BY_LIBRARY,
-    );
 }

@@ -64,24 +64,3 @@ pub(crate) fn planned(header: &[u8], layout: &[u8]) {
     checks::verdict(checker::check(t, plan));
     checks::run(plan_run::run_plan(t, plan));
 }
-
-pub(crate) fn all() {
-    tables::each(
-        b"\nLONG LISTS\n\
-        4,096 frames on 32 cards. Frame i is on card 0 (one card), on card i modulo 32 (round robin), or on card i / 128 (blocks).\n\
-        The checksum of a plan is the sum of (4,096 - i) times the cycle of frame i, over all i, modulo 65,521. A plan is run whatever\n\
-        its mode; only the plan of a read is made for it.\n\n\
-        \x20                                                     check                              run_plan          handed\n\
-        layout      header           plan          checksum   verdict           at     T  peak   outcome   needed  over ended  peak  broken\n#\
-        01002000011000\n one card|01012000011000\n one card|01022000011000\n one card|\
-        01002000C01000\n one card|01012000C01000\n one card|01022000C01000\n one card|\
-        01002004001000\n one card|01012004001000\n one card|01022004001000\n one card|\
-        01002000011000\n round robin|01012000011000\n round robin|01022000011000\n round robin|\
-        01002000C01000\n round robin|01012000C01000\n round robin|01022000C01000\n round robin|\
-        01002004001000\n round robin|01012004001000\n round robin|01022004001000\n round robin|\
-        01002000011000\n blocks|01012000011000\n blocks|01022000011000\n blocks|\
-        01002000C01000\n blocks|01012000C01000\n blocks|01022000C01000\n blocks|\
-        01002004001000\n blocks|01012004001000\n blocks|01022004001000\n blocks|",
-        tables::LONG_LIST,
-    );
-}

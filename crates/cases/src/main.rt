@@ -1,4 +1,5 @@
 // Runs document 01's cases and boundaries, and every refusal through every call that gives it, and prints inputs and results.
+// The cases stand in tables, which the program reads from standard input: the file `stdin` beside src/. `tables` says how they are written.
 mod checks;
 mod docks;
 mod library;
@@ -12,19 +13,11 @@ mod tables;
 mod tickets;
 mod walks;
 
+use libc::STDIN_FILENO;
+
+// Tables that do not fit into the buffer would be missing from what is printed.
 fn main() {
-    output::text(
-        b"The cases of document 01, its boundaries, and every refusal through every call that gives it.\n\
-        In a ticket / stands for the end byte (0A hex), and (nothing) is a ticket without bytes. Other numbers are decimal.\n",
-    );
-    tickets::all();
-    walks::all();
-    refusals::all();
-    plans::all();
-    printed::all();
-    checks::all();
-    docks::all();
-    savers::all();
-    long_lists::all();
-    library::all();
+    let mut text = [0u8; 16384];
+    let read = io::read_full(STDIN_FILENO, &mut text);
+    tables::each(&text[..read]);
 }

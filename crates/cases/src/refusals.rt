@@ -1,7 +1,6 @@
 // Refused tickets: one line for each, with the number that every call gives and what stands beside it.
 use crate::docks;
 use crate::output;
-use crate::tables;
 use counting::Position;
 
 fn number_of_header(a: header::Answer) -> u8 {
@@ -74,64 +73,4 @@ pub(crate) fn too_short(t: &[u8]) {
     let mut buffer = [9u16; 1];
     let mut memory = [7u8; 1];
     users(t, &plan, &mut buffer, &mut memory);
-}
-
-pub(crate) fn all() {
-    tables::each(
-        b"\nREFUSED TICKETS\n\
-        Each call is given the ticket and gives the number of its refusal, 0 for none. Beside it: the bytes of the line; the first two cards\n\
-        of parse; the first two counts; the buffer lent to plan, filled with 9; the memory lent to start, filled with 7; and start's dock\n\
-        (frames, pool, handed over, held, cycles ended). Position 0, plan 1 2 2, three places in the buffer and in memory.\n\n\
-        \x20                                                        line_   line  first first                run_        lent     lent       start's\n\
-        ticket                          heading   parse refusal refusal bytes cards counts plan check  plan start  buffer   memory   dock numbers\n#\
-        |\
-        \n|\
-        01000200020003|\
-        0100020002000G\n|\
-        0100020002000a\n|\
-        0100020002000:\n|\
-        0100020002000@\n|\
-        010002000200030\n|\
-        0203000000000G\n|\
-        02030000000000\n|\
-        00000200020000\n|\
-        01030200020000\n|\
-        01FF0000001001\n|\
-        01000000020000\n|\
-        01002100020000\n|\
-        01000000001001\n|\
-        01000200000000\n|\
-        01000204010000\n|\
-        01000200001001\n|\
-        01000200021001\n|\
-        01000200021001\n0G\n|\
-        0100020002FFFF\n|\
-        01000200021000\n|\
-        01000200020003\n00\n00\n|\
-        01000200020003\n00\n00\n01|\
-        01000200020003\n000\n0\n01\n|\
-        01000200020003\n00\n0G\n02\n|\
-        01000200020003\n0a\n02\n01\n|\
-        01000200020001\n0G\n00\n|\
-        01000200020003\n00\n02\n0G\n|\
-        01000200020003\n02\n|\
-        01000200020001\n02\n00\n|\
-        01002000020001\n20\n|\
-        01000100020001\n01\n|\
-        01000200020003\n00\n00\n01\n00\n|\
-        01000200020000\n0|\
-        01000200020000\n\n|",
-        tables::REFUSED,
-    );
-    tables::each(
-        b"\nThe ticket's own refusal comes before 10, 11, 12 and 16: position 3, and one place in the plan, the buffer and memory.\n\n\
-        \x20                                                        line_   line  first first                run_        lent     lent       start's\n\
-        ticket                          heading   parse refusal refusal bytes cards counts plan check  plan start  buffer   memory   dock numbers\n#\
-        01020200020003\n00\n00\n|\
-        01020200020003\n00\n02\n01\n|\
-        01020200020003\n00\n00\n01\n00\n|\
-        01020200020003\n00\n00\n01\n|\
-        01000200020003\n00\n00\n01\n|",
-        tables::TOO_SHORT,
-    );
 }

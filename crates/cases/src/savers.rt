@@ -89,7 +89,8 @@ fn call(s: Saver, b: u8, library: bool) -> Saver
     answered(s.save(card))
 }
 
-// A new saver, and calls of it.
+// A new saver, and calls of it. The library's calls are shown for the saver of document 01's first save, list 0 0 1 with a pool of 2, with a card
+// that is not there, a save too late and a close too many; then for a saver that is refused.
 pub(crate) fn series(new: &[u8], text: &[u8], library: bool) {
     let cards = tables::number(tables::byte_at(new, 0));
     let pool = tables::number(tables::byte_at(new, 1));
@@ -100,18 +101,4 @@ pub(crate) fn series(new: &[u8], text: &[u8], library: bool) {
         now = call(now, text[i], library);
         i += 1;
     }
-}
-
-pub(crate) fn all() {
-    tables::each(
-        b"THE SAVER\n\
-        Each call's answer: the refusal, the cycle made, the record that comes back (cards, pool, taken, made, waiting, closing), and the\n\
-        entries of the cards that wrote, as card:position. A new saver has cards and a pool, a save a card.\n\n\
-        call                 refusal   cycle   cards    pool   taken    made waiting closing   written\n#\
-        11|CP|01 0Lc|DP 0c|20 0Lc|2Q 0c|00|LL|\
-        22 001cc0|21 001cc|22 0001cc|33 0120ccc|22 c202Lc1L2c|\
-        After this new saver come 4,095 saves on card 0 that are not shown.\n#\
-        2P m0012Lc02cc|",
-        tables::SAVED,
-    );
 }

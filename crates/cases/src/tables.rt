@@ -1,6 +1,6 @@
-// The tables: a table is a text. In it # ends a text that is printed as it stands, and | ends an entry, which is shown as the table says. An
-// entry is a ticket or a new saver; what follows the first space in it goes with that: a plan, steps of the dock, calls of the saver, the
-// layout of a long list, or a dot for each place that a lent buffer has less.
+// The tables: one text. In it # ends a text that is printed as it stands, and | ends an entry, which is shown. > ends a word that says how the
+// entries after it are shown, by its first letter. An entry is a ticket or a new saver; what follows the first space in it goes with that: a plan,
+// steps of the dock, calls of the saver, the layout of a long list, or a dot for each place that a lent buffer has less.
 use crate::checks;
 use crate::docks;
 use crate::library;
@@ -13,54 +13,29 @@ use crate::savers;
 use crate::tickets;
 use crate::walks;
 
-// How the entries of a table are shown.
-pub(crate) const ACCEPTED: u8 = 1;
-
-pub(crate) const LINES: u8 = 2;
-
-pub(crate) const WALKED: u8 = 3;
-
-pub(crate) const REFUSED: u8 = 4;
-
-pub(crate) const TOO_SHORT: u8 = 5;
-
-pub(crate) const PLANNED: u8 = 6;
-
-pub(crate) const PRINTED: u8 = 7;
-
-pub(crate) const CHECKED: u8 = 8;
-
-pub(crate) const DRIVEN: u8 = 9;
-
-pub(crate) const SAVED: u8 = 10;
-
-pub(crate) const LONG_LIST: u8 = 11;
-
-pub(crate) const CALLED: u8 = 12;
-
-pub(crate) const SAVED_BY_LIBRARY: u8 = 13;
-
-fn show_ticket(t: &[u8], more: &[u8], how: u8) {
+// Shows an entry as the letter says; a capital is for a long list or the library's calls.
+fn show_as(how: u8, t: &[u8], more: &[u8]) {
     match how {
-        ACCEPTED => tickets::accepted(t),
-        LINES => tickets::lines(t),
-        WALKED => walks::walked(t),
-        REFUSED => refusals::refused(t),
-        TOO_SHORT => refusals::too_short(t),
-        PLANNED => plans::planned(t, more),
-        PRINTED => printed::printed(t, more),
-        CHECKED => checks::checked(t, more),
-        DRIVEN => docks::driven(t, more),
-        SAVED => savers::series(t, more, false),
-        LONG_LIST => long_lists::planned(t, more),
-        CALLED => library::called(t, more),
-        SAVED_BY_LIBRARY => savers::series(t, more, true),
+        b'a' => tickets::accepted(t),
+        b'l' => tickets::lines(t),
+        b'w' => walks::walked(t),
+        b'W' => walks::walked_far(t, more),
+        b'r' => refusals::refused(t),
+        b't' => refusals::too_short(t),
+        b'p' => plans::planned(t, more),
+        b'P' => long_lists::planned(t, more),
+        b'b' => printed::printed(t, more),
+        b'c' => checks::checked(t, more),
+        b'C' => library::called(t, more),
+        b'd' => docks::driven(t, more),
+        b's' => savers::series(t, more, false),
+        b'S' => savers::series(t, more, true),
         _ => {}
     }
 }
 
 // Shows an entry, and ends its last line.
-fn show(entry: &[u8], how: u8) {
+fn show(how: u8, entry: &[u8]) {
     let start: usize = 0;
     let end = entry.len();
     let mut at = end;
@@ -73,13 +48,14 @@ fn show(entry: &[u8], how: u8) {
             next = i + 1;
         }
     }
-    show_ticket(&entry[start..at], &entry[next..end], how);
+    show_as(how, &entry[start..at], &entry[next..end]);
     output::byte(b'\n');
 }
 
-// Prints each text and shows each entry.
-pub(crate) fn each(table: &[u8], how: u8) {
+// Prints each text and shows each entry. What stands after the last mark is neither.
+pub(crate) fn each(table: &[u8]) {
     let n = table.len();
+    let mut how: u8 = 0;
     let mut from: usize = 0;
     let mut i: usize = 0;
     while i < n {
@@ -90,7 +66,10 @@ pub(crate) fn each(table: &[u8], how: u8) {
             output::text(&table[from..at]);
             from = i;
         } else if b == b'|' {
-            show(&table[from..at], how);
+            show(how, &table[from..at]);
+            from = i;
+        } else if b == b'>' {
+            how = table[from];
             from = i;
         }
     }

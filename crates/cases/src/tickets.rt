@@ -1,6 +1,5 @@
 // Accepted tickets: the header's fields, the cards of the frames, the frames of each card, and the lines.
 use crate::output;
-use crate::tables;
 use counting::Position;
 use header::Answer;
 
@@ -61,36 +60,4 @@ pub(crate) fn lines(t: &[u8]) {
     line(t, 2);
     line(t, 3);
     line(t, 65535);
-}
-
-pub(crate) fn all() {
-    tables::each(
-        b"\nACCEPTED TICKETS\n\
-        header::heading and ticket::parse give the fields of the header. parse gives the card of each frame too, 0 past the last one: the\n\
-        first five places are shown. ticket::counts gives the frames of each card: those that are not 0 are shown, as card:frames.\n\n\
-        \x20                                heading                            parse\n\
-        ticket                          edition   mode  cards   pool frames edition   mode  cards   pool frames cards of frames counts\n#\
-        01000200020003\n00\n00\n01\n|\
-        01010200020003\n00\n00\n01\n|\
-        01020200020003\n00\n00\n01\n|\
-        01000200020000\n|\
-        01000100020000\n|\
-        01002000020000\n|\
-        01000200010000\n|\
-        01000204000000\n|\
-        01002000020002\n1F\n00\n|\
-        010110000A0004\n0A\n0F\n09\n0A\n|",
-        tables::ACCEPTED,
-    );
-    tables::each(
-        b"\nLINES\n\
-        ticket::line gives the line at a position, ticket::line_refusal the number beside it: 0, or a refusal beside an empty line.\n\n\
-        ticket                           position  refusal  line\n#\
-        01000300020003\n00\n02\n01\n|\
-        01000200020000\n|\
-        01000300020003\n00\n02\n|\
-        01000300020003\n00\n02\n03\n|\
-        01000300020003\n00\n02\n01\n00\n|",
-        tables::LINES,
-    );
 }

@@ -43,35 +43,14 @@ pub(crate) fn walked(t: &[u8]) {
     part(walker::nth(t, Position(65535)));
 }
 
-// A walk through 4,096 lines.
-fn long(t: &[u8]) {
+// Where 5,000 steps lead through a long list's ticket with this header and layout, and its last lines.
+pub(crate) fn walked_far(header: &[u8], layout: &[u8]) {
+    let mut text = [0u8; 12303];
+    long_lists::put_ticket(&mut text, header, tables::byte_at(layout, 0));
+    let t: &[u8] = &text;
     output::number(steps(walker::opened(t), 5000, 0), 5);
     output::text(b". nth at 4,094, 4,095 and 4,096 gives");
     part(walker::nth(t, Position(4094)));
     part(walker::nth(t, Position(4095)));
     part(walker::nth(t, Position(4096)));
-    output::byte(b'\n');
-}
-
-pub(crate) fn all() {
-    tables::each(
-        b"\nWALKS\n\
-        walker::opened, line_at and next_at make the first five steps of a walk, and walker::nth starts a walker, sets it at a position and\n\
-        takes its line; the empty part is shown as end. ticket::refusal gives the number beside it.\n\n\
-        ticket                            refusal   five steps                  nth at 0, 2, 3 and 65,535\n#\
-        01000300020003\n00\n02\n01\n|\
-        01000200020000\n|\
-        01002000010005\n1F\n1E\n1D\n1C\n1B\n|\
-        01000300020003\n00\n02\n|\
-        01000300020003\n00\n02\n01|\
-        01000300020003\n00\n02\n03\n|\
-        01000300020003\n00\n02\n01\n00\n|\
-        02000300020003\n00\n02\n01\n|\
-        |\
-        \nAfter 5,000 steps through 4,096 frames, round robin, the walk stands at position#",
-        tables::WALKED,
-    );
-    let mut text = [0u8; 12303];
-    long_lists::put_ticket(&mut text, b"01002000C01000\n", b'r');
-    long(&text);
 }

@@ -6,10 +6,10 @@ use Rattle.cases.proofs.tables.each.Statement.{statement}
 use Rattle.cases.proofs.tables.each.Tie as tie
 
 abbrev Inv-loop : tie.InvT-loop
-Inv-loop table how n from₀ i₀ from i = (i ≤ n) × (from ≤ i)
+Inv-loop table n how₀ from₀ i₀ how from i = (i ≤ n) × (from ≤ i)
 
 abbrev μ-loop : tie.MeasureT-loop
-μ-loop table how n from₀ i₀ from i = n - i
+μ-loop table n how₀ from₀ i₀ how from i = n - i
 
 loop-holds : tie.Need-loop-holds Inv-loop μ-loop
 loop-holds c = search needs
@@ -56,11 +56,20 @@ loop-less-2 c = search needs
 loop-again-2 : tie.Need-loop-again-2 Inv-loop μ-loop
 loop-again-2 c = search needs
 
+shared-slice-read-how : tie.Need-shared-slice-read-how Inv-loop μ-loop
+shared-slice-read-how c = search needs
+
 loop-less-3 : tie.Need-loop-less-3 Inv-loop μ-loop
 loop-less-3 c = search needs
 
 loop-again-3 : tie.Need-loop-again-3 Inv-loop μ-loop
 loop-again-3 c = search needs
+
+loop-less-4 : tie.Need-loop-less-4 Inv-loop μ-loop
+loop-less-4 c = search needs
+
+loop-again-4 : tie.Need-loop-again-4 Inv-loop μ-loop
+loop-again-4 c = search needs
 
 returns : tie.Need-returns Inv-loop μ-loop
 returns c = search needs
@@ -86,6 +95,9 @@ each-spec =
     show-requires
     loop-less-2
     loop-again-2
+    shared-slice-read-how
     loop-less-3
     loop-again-3
+    loop-less-4
+    loop-again-4
     returns)

@@ -6,10 +6,10 @@ use Rattle.cases.proofs.tables.show.Statement.{statement}
 use Rattle.cases.proofs.tables.show.Tie as tie
 
 abbrev Inv-loop : tie.InvT-loop
-Inv-loop entry how start end at₀ next₀ i₀ at next i = (i ≤ end) × (at ≤ end) × (next ≤ end)
+Inv-loop how entry start end at₀ next₀ i₀ at next i = (i ≤ end) × (at ≤ end) × (next ≤ end)
 
 abbrev μ-loop : tie.MeasureT-loop
-μ-loop entry how start end at₀ next₀ i₀ at next i = i
+μ-loop how entry start end at₀ next₀ i₀ at next i = i
 
 loop-holds : tie.Need-loop-holds Inv-loop μ-loop
 loop-holds c = search needs
@@ -35,26 +35,26 @@ loop-less-2 c = search needs
 loop-again-2 : tie.Need-loop-again-2 Inv-loop μ-loop
 loop-again-2 c = search needs
 
-sub-show-ticket : tie.Need-sub-show-ticket Inv-loop μ-loop
-sub-show-ticket c = search needs
+sub-show-as : tie.Need-sub-show-as Inv-loop μ-loop
+sub-show-as c = search needs
 
-part-show-ticket-start : tie.Need-part-show-ticket-start Inv-loop μ-loop
-part-show-ticket-start c = search needs
+part-show-as-start : tie.Need-part-show-as-start Inv-loop μ-loop
+part-show-as-start c = search needs
 
-part-show-ticket-end : tie.Need-part-show-ticket-end Inv-loop μ-loop
-part-show-ticket-end c = search needs
+part-show-as-end : tie.Need-part-show-as-end Inv-loop μ-loop
+part-show-as-end c = search needs
 
-sub-show-ticket-2 : tie.Need-sub-show-ticket-2 Inv-loop μ-loop
-sub-show-ticket-2 c = search needs
+sub-show-as-2 : tie.Need-sub-show-as-2 Inv-loop μ-loop
+sub-show-as-2 c = search needs
 
-part-show-ticket-start-2 : tie.Need-part-show-ticket-start-2 Inv-loop μ-loop
-part-show-ticket-start-2 c = search needs
+part-show-as-start-2 : tie.Need-part-show-as-start-2 Inv-loop μ-loop
+part-show-as-start-2 c = search needs
 
-part-show-ticket-end-2 : tie.Need-part-show-ticket-end-2 Inv-loop μ-loop
-part-show-ticket-end-2 c = search needs
+part-show-as-end-2 : tie.Need-part-show-as-end-2 Inv-loop μ-loop
+part-show-as-end-2 c = search needs
 
-show-ticket-requires : tie.Need-show-ticket-requires Inv-loop μ-loop
-show-ticket-requires c κs = search needs
+show-as-requires : tie.Need-show-as-requires Inv-loop μ-loop
+show-as-requires c κs = search needs
 
 byte-requires : tie.Need-byte-requires Inv-loop μ-loop
 byte-requires c κs = search needs
@@ -76,12 +76,12 @@ show-spec =
     loop-again
     loop-less-2
     loop-again-2
-    sub-show-ticket
-    part-show-ticket-start
-    part-show-ticket-end
-    sub-show-ticket-2
-    part-show-ticket-start-2
-    part-show-ticket-end-2
-    show-ticket-requires
+    sub-show-as
+    part-show-as-start
+    part-show-as-end
+    sub-show-as-2
+    part-show-as-start-2
+    part-show-as-end-2
+    show-as-requires
     byte-requires
     returns)
