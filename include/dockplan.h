@@ -81,7 +81,7 @@ typedef struct {
 
 /* Reads a whole ticket, its lines too, and answers what its header says. Refusals 1 to 9. */
 dockplan_ticket_answer dockplan_parse(const uint8_t *ticket, size_t bytes);
-#define DOCKPLAN_STACK_PARSE 12704
+#define DOCKPLAN_STACK_PARSE 4496
 
 /* A part of the caller's ticket: `length` bytes from byte `offset` on. */
 typedef struct {
@@ -92,11 +92,11 @@ typedef struct {
 /* The line of the frame at a position: the 2 digits of its card, without the end byte. With a refusal (1 to 9,
  * then 16) offset and length are 0; the number is dockplan_line_refusal's. */
 dockplan_part dockplan_line(const uint8_t *ticket, size_t bytes, dockplan_position position);
-#define DOCKPLAN_STACK_LINE 12704
+#define DOCKPLAN_STACK_LINE 4496
 
 /* The number that goes with dockplan_line: 0, the ticket's own refusal (1 to 9), or 16 for a position not below L. */
 uint8_t dockplan_line_refusal(const uint8_t *ticket, size_t bytes, dockplan_position position);
-#define DOCKPLAN_STACK_LINE_REFUSAL 12704
+#define DOCKPLAN_STACK_LINE_REFUSAL 4496
 
 /* How many frames each of the 32 cards has. */
 typedef struct {
@@ -106,7 +106,7 @@ typedef struct {
 
 /* Counts the frames of each card. Refusals 1 to 9. */
 dockplan_counts_answer dockplan_counts(const uint8_t *ticket, size_t bytes);
-#define DOCKPLAN_STACK_COUNTS 16896
+#define DOCKPLAN_STACK_COUNTS 4592
 
 /* ---- The plan ------------------------------------------------------------------------------------------------ */
 
@@ -121,7 +121,7 @@ typedef struct {
  * (0 for a frame that save and keep leaves in the pool), later places keep their content. Refusals 1 to 9, then 10
  * where `places` is below L. L is dockplan_parse's, and DOCKPLAN_MAX_FRAMES places are always enough. */
 dockplan_plan_answer dockplan_plan(const uint8_t *ticket, size_t bytes, uint16_t *plan, size_t places);
-#define DOCKPLAN_STACK_PLAN 12800
+#define DOCKPLAN_STACK_PLAN 12544
 
 /* Prints the plan of a ticket as text: T in 4 digits, then for each frame its position (4), card (2) and cycle (4),
  * in upper-case hexadecimal, each line with its end byte. A ticket that is refused (1 to 9) prints one line, FF and
@@ -129,7 +129,7 @@ dockplan_plan_answer dockplan_plan(const uint8_t *ticket, size_t bytes, uint16_t
  * places keep their content. Where the whole text has no room, the answer is 0 and nothing changes;
  * DOCKPLAN_MAX_PRINTED_BYTES places are always enough. */
 size_t dockplan_print(const uint8_t *ticket, size_t bytes, uint8_t *text, size_t places);
-#define DOCKPLAN_STACK_PRINT 21056
+#define DOCKPLAN_STACK_PRINT 20800
 
 /* ---- Plans that anyone made ---------------------------------------------------------------------------------- */
 
@@ -155,7 +155,7 @@ typedef struct {
  * Otherwise the lowest position at fault is named, with the first of its faults in the order above. Refusals 1 to 9,
  * then 12 for mode 02, then 11 where `places` is not L. */
 dockplan_check_answer dockplan_check(const uint8_t *ticket, size_t bytes, const uint16_t *plan, size_t places);
-#define DOCKPLAN_STACK_CHECK 25072
+#define DOCKPLAN_STACK_CHECK 12800
 
 /* A plan's run on the dock: whether a step was against the rules (broken), the frames handed over, the cycles that
  * ended, whether all frames were handed over (complete; with no frames they are) and the cycles needed for it, 0 if
@@ -174,7 +174,7 @@ typedef struct {
  * list order, then the end of the cycle. A step against the rules breaks the run off. The ticket's mode is not looked
  * at. Refusals 1 to 9, then 11 where `places` is not L. */
 dockplan_run_answer dockplan_run_plan(const uint8_t *ticket, size_t bytes, const uint16_t *plan, size_t places);
-#define DOCKPLAN_STACK_RUN_PLAN 33600
+#define DOCKPLAN_STACK_RUN_PLAN 21280
 
 /* ---- The saver: frames saved as they come -------------------------------------------------------------------- */
 

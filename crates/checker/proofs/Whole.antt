@@ -95,7 +95,9 @@ module _ {cards cycles : List ℕ} (f : Checking cards cycles) where
           (λ q. valid-correct (backlogOf save) m cards cycles clear 0 0 (f .same-length) (q .0))
           (otherwise (backlogOf save) m cards cycles (length cards) 0 clear clear)
 
-      pub late-valid : isNothing v ≡ true → {p : ℕ} → p ≡ peakOf save cycles → Valid (record { 0 = top }) p ≡ answerOf (verdictOn save m cards cycles)
+      pub late-valid :
+          isNothing v ≡ true → {p : ℕ} → p ≡ peakOf save cycles
+          → Valid (record { 0 = top }) p ≡ answerOf (verdictOn save m cards cycles)
       late-valid e {p} p-is = nothing-valid v top p e ∙ judged save m v v-is p p-is
 
       pub late-fault : (p : ℕ) → isNothing v ≡ false → completed v top p ≡ answerOf (verdictOn save m cards cycles)

@@ -1,4 +1,4 @@
--- The dock as code (document 01, "The dock"): a small record that goes by value, and a lent byte for each frame. `Shows` says which dock of
+-- The dock as code (document 01, "The dock"): a small record that goes by value, and a lent byte for each frame. `ShowsDock` says which dock of
 -- the model (crates/schedule/specs/Dock.antt) a record and its memory are; what `start` does is said here, what `drive` does in specs/Drive.antt.
 -- Assumes nothing.
 use Prim.Native.Nat.{ℕ, _+_, _≤_, _<_, min}

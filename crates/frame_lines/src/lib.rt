@@ -53,7 +53,8 @@ fn fewer(a: usize, b: usize) -> usize
 // pass to the front of `card`. Returns the refusal, 0 for none.
 pub fn read_lines(value: &[u8; 256], s: &[u8], cards: u8, frames: u16, card: &mut [u8]) -> u8
     requires { ⌜ (now value ≡ digitValues) × (frames ≤ length (now card)) × (frames ≤ maxFrames) ⌝ }
-    ensures { λ r. ⌜ (r ≡ partFault (now (s .entry)) cards frames) × (now (card .exit) ≡ cardsRead (now (s .entry)) cards frames (now (card .entry))) ⌝ }
+    ensures { λ r. ⌜ (r ≡ partFault (now (s .entry)) cards frames)
+        × (now (card .exit) ≡ cardsRead (now (s .entry)) cards frames (now (card .entry))) ⌝ }
 {
     let n = frames as usize;
     let whole = s.len() / 3;
