@@ -81,7 +81,7 @@ fn steps(start: Dock, text: &[u8], memory: &mut [u8]) {
 pub(crate) fn driven(t: &[u8], text: &[u8]) {
     let mut memory = [77u8; 4];
     output::ticket(t);
-    let r = dock::start(t, &mut memory);
+    let r = dock_start::start(t, &mut memory);
     result(r, &memory);
     steps(r.dock, text, &mut memory);
 }

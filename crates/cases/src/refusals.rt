@@ -48,7 +48,7 @@ fn users(t: &[u8], plan: &[u16], buffer: &mut [u16], memory: &mut [u8]) {
         planner::Answer::Refused(k) => output::small(k, 6),
     }
     plan_users(t, plan);
-    let started = dock::start(t, memory);
+    let started = dock_start::start(t, memory);
     output::small(started.refusal, 6);
     output::list(buffer, 3, 3);
     output::small_list(memory, 3, 3);

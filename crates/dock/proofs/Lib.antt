@@ -3,8 +3,7 @@ pub mod Driving
 pub mod Following
 pub mod Past
 pub mod Taken
-pub mod Starting
-pub mod Placing
+pub mod AtStart
 pub mod EndStep
 pub mod ReadStep
 pub mod DropStep

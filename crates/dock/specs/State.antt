@@ -1,21 +1,17 @@
 -- The dock as code (document 01, "The dock"): a small record that goes by value, and a lent byte for each frame. `ShowsDock` says which dock of
--- the model (crates/schedule/specs/Dock.antt) a record and its memory are; what `start` does is said here, what `drive` does in specs/Drive.antt.
+-- the model (crates/schedule/specs/Dock.antt) a record and its memory are; what `drive` does is said in specs/Drive.antt.
 -- Assumes nothing.
 use Prim.Native.Nat.{ℕ, _+_, _≤_, _<_, min}
 use mathlib.Core.Path.{_≡_}
 use mathlib.Core.Bool.{Bool, true, false, not, cond}
 use mathlib.Core.List.{List}
-use lib.Dec.{ltb}
 use lib.ListN.{length, getD, replicate}
-use Rattle.counting.specs.Count.{written}
 use Rattle.counting.specs.Frames.{cardOf}
 use Rattle.schedule.specs.Dock.{isIn, isEmpty, holding, readFrame, dropFrame, endCycle, Step as ModelStep, Dock as ModelDock}
 use Rattle.header.specs.Limits.{maxCards, maxFrames}
-use Rattle.ticket.specs.Ticket.{Parsed, accepted, refused}
 use Rattle.dock.specs.declared.Dock.{Dock}
 use Rattle.dock.specs.declared.Step.{Step}
 use Rattle.dock.specs.declared.Step.the-variants.{Read, Drop, End}
-use Rattle.dock.specs.declared.Driven.{Driven as Answer}
 
 -- the most cycles that a record counts; the count then stays there
 abbrev pub mostCycles : ℕ
@@ -64,14 +60,3 @@ newDock m frames =
       reading = false;
       busy = replicate maxCards false;
     }
-
--- What `start` answers: the ticket's own refusal, then 10 where lent memory has fewer than L places; beside a refusal a dock of zeros.
-unfoldable pub startOf : Parsed → ℕ → Answer
-startOf (accepted h cards) places =
-    cond (ltb places (length cards)) (record { refusal = 10; dock = newDock 0 0 }) (record { refusal = 0; dock = newDock (h .pool) (length cards) })
-startOf (refused k) places = record { refusal = k; dock = newDock 0 0 }
-
--- The memory after `start`: each frame's card, none held; later places keep their content, and a refusal changes nothing.
-unfoldable pub memoryStarted : Parsed → List ℕ → List ℕ
-memoryStarted (accepted h cards) before = cond (ltb (length before) (length cards)) before (written cards before)
-memoryStarted (refused k) before = before

@@ -1,17 +1,11 @@
-// The dock of document 01 as code: started for a ticket's list and driven one step at a time.
+// The dock of document 01 as code, driven one step at a time. crates/dock_start starts it for a ticket's list.
 ghost use mathlib.Core.Path.{_≡_};
-ghost use mathlib.Core.List.{_++_};
-ghost use Prim.Native.Nat.{_≤_};
-ghost use lib.ListN.{length, take, drop};
-ghost use Rattle.ticket.specs.Ticket.{accepted, parse};
-ghost use Rattle.ticket.specs.Grounds.{Fits};
-ghost use Rattle.dock.specs.State.{newDock, startOf, memoryStarted};
+ghost use Rattle.dock.specs.State.{newDock};
 ghost use Rattle.dock.specs.Drive.{driveOf, memoryDriven, Follows};
 
 mod steps;
 
 use counting::Position;
-use header::Header;
 use header::limits;
 
 // A step. Positions past the list are against the rules.
@@ -53,59 +47,6 @@ pub fn empty(pool: u16, frames: u16) -> Dock
         broken: false,
         reading: false,
         busy: [false; limits::CARDS],
-    }
-}
-
-// A refusal, beside a dock of zeros.
-fn refused(number: u8) -> Driven
-    ensures { λ r. ⌜ r ≡ record { refusal = number; dock = newDock 0 0 } ⌝ }
-{
-    Driven {
-        refusal: number,
-        dock: empty(0, 0),
-    }
-}
-
-// The cards of the list, none held, at the first places of memory.
-fn copy_cards(cards: &[u8], memory: &mut [u8])
-    requires { ⌜ length (now cards) ≤ length (now memory) ⌝ }
-    ensures { λ r. ⌜ now (memory .exit) ≡ now (cards .entry) ++ drop (length (now (cards .entry))) (now (memory .entry)) ⌝ }
-{
-    let n = cards.len();
-    let mut i: usize = 0;
-    while i < n {
-        memory[i] = cards[i];
-        i += 1;
-    }
-}
-
-// An empty dock for a list that is read: the cards of its frames stand at the front of `card`.
-fn start_list(h: Header, card: &[u8], memory: &mut [u8]) -> Driven
-    requires { ⌜ Fits h (take (h .frames) (now card)) ⌝ }
-    ensures answer { λ r. ⌜ r ≡ startOf (accepted h (take (h .frames) (now (card .entry)))) (length (now (memory .entry))) ⌝ }
-    ensures memory { λ r. ⌜ now (memory .exit) ≡ memoryStarted (accepted h (take (h .frames) (now (card .entry)))) (now (memory .entry)) ⌝ }
-{
-    let n = h.frames as usize;
-    if memory.len() < n {
-        return refused(10);
-    }
-    copy_cards(&card[..n], memory);
-    Driven {
-        refusal: 0,
-        dock: empty(h.pool, h.frames),
-    }
-}
-
-// An empty dock for the list and the pool of a ticket; memory gets a byte for each frame.
-pub fn start(ticket: &[u8], memory: &mut [u8]) -> Driven
-    ensures answer { λ r. ⌜ r ≡ startOf (parse (now (ticket .entry))) (length (now (memory .entry))) ⌝ }
-    ensures memory { λ r. ⌜ now (memory .exit) ≡ memoryStarted (parse (now (ticket .entry))) (now (memory .entry)) ⌝ }
-{
-    let mut card = [0u8; limits::FRAMES];
-    let answer = ticket::read(ticket, &mut card);
-    match answer {
-        header::Answer::Refused(number) => refused(number),
-        header::Answer::Accepted(h) => start_list(h, &card, memory),
     }
 }
 

@@ -19,7 +19,7 @@ use Rattle.print_lines.specs.Put.{refusalText, bytesIn}
 use Rattle.printing.specs.Printed.{frameLines, planText, textOf}
 use Rattle.print_lines.specs.Put as put
 use Rattle.saver.specs.Calls.{newOf, saveOf, closeOf}
-use Rattle.dock.specs.State.{startOf, memoryStarted}
+use Rattle.dock_start.specs.Start.{startOf, memoryStarted}
 use Rattle.dock.specs.Drive.{recordAfter, bytesAfter, driveOf, memoryDriven}
 use Rattle.firmware.specs.Calls.{resultOf}
 use Rattle.firmware.specs.Cases.{Case, call, expected, cases}

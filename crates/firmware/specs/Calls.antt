@@ -17,7 +17,7 @@ use Rattle.printing.specs.Printed.{printed}
 use Rattle.saver.specs.Calls.{newOf, saveOf, closeOf}
 use Rattle.saver.specs.declared.Saver.{Saver}
 use Rattle.saver.specs.declared.Answer.{Answer as SaverAnswer}
-use Rattle.dock.specs.State.{startOf, memoryStarted}
+use Rattle.dock_start.specs.Start.{startOf, memoryStarted}
 use Rattle.dock.specs.Drive.{driveOf, memoryDriven}
 use Rattle.dock.specs.declared.Dock.{Dock}
 use Rattle.dock.specs.declared.Step.{Step}

@@ -21,7 +21,7 @@ use Rattle.plan_run.specs.declared.Outcome.the-variants.{Complete}
 use Rattle.plan_run.specs.declared.Answer.{Answer}
 use Rattle.plan_run.specs.declared.Answer.the-variants.{Ran, Refused}
 use Rattle.run_progress.specs.declared.Progress.{Progress}
-use Rattle.dock.proofs.Starting.{empty-shows}
+use Rattle.dock.proofs.Main.{empty-shows}
 use Rattle.plan_run.specs.Numbers.{numbersOf}
 use Rattle.plan_run.specs.Run.{outcomeOf, runOf, ranOf}
 use Rattle.run_progress.specs.Progress.{Tracks, atStart}
@@ -58,7 +58,14 @@ module _ (h : Header) (cards rest : List ℕ) (f : Fits h cards) where
   pub start-tracks : Tracks (h .pool) cards [] (atStart (h .pool) (length cards)) (cards ++ rest)
   unfolding run outcome peak
   start-tracks =
-      record { shows = empty-shows h cards rest f; outcome-is = rw (leb-none (length cards)); none-needed = λ e. refl; needed-few = zero-le; peak-is = refl }
+      record {
+        shows =
+            empty-shows (h .pool) cards rest (omega (arith, f .frames, f .few)) (λ i g. omega (arith, f .each-card i g, f .card-range .1));
+        outcome-is = rw (leb-none (length cards));
+        none-needed = λ e. refl;
+        needed-few = zero-le;
+        peak-is = refl;
+      }
 
   pub start-reached : (cycles : List ℕ) → Reached (h .pool) cards (stepsTo cycles 0) 0 (atStart (h .pool) (length cards)) (cards ++ rest)
   unfolding stepsTo run

@@ -132,7 +132,7 @@ pub(crate) fn compare_all(counts: &mut [u64; 32], ticket: &[u8], c: Case, plan: 
         return;
     }
     let mut memory = [0u8; 8];
-    let started = dock::start(ticket, &mut memory);
+    let started = dock_start::start(ticket, &mut memory);
     let empty = started.dock;
     let longest = if c.n < 3 { 8 } else { 7 };
     let fewest = explore(

@@ -1,22 +1,21 @@
 -- What the parts of `start` found, as its answer to the ticket.
 -- Assumes nothing.
 use Prim.Native.Nat.{ℕ, _-_, _≤_, _<_}
-use mathlib.Core.Path.{_≡_, refl, sym, _∙_}
-use mathlib.Core.Bool.{false}
+use mathlib.Core.Path.{_≡_, refl, _∙_}
 use mathlib.Core.List.{List, _++_}
 use native.Mathlib.Omega.{arith}
-use lib.ListN.{length, drop, length-append, length-replicate, getD-replicate, List·getD-append}
+use lib.ListN.{length, drop}
 use borrow.Author.Tests.{lt-ltb, le-ltb}
 use Rattle.header.specs.declared.Header.{Header}
 use Rattle.ticket.specs.Ticket.{Parsed, accepted, refused, parse}
 use Rattle.ticket.specs.Grounds.{Fits}
 use Rattle.ticket.proofs.Accepted.{fits}
 use Rattle.schedule.specs.Dock.{emptyDock}
-use Rattle.counting.proofs.Sums.{sum-zero}
-use Rattle.header.specs.Limits.{maxCards}
-use Rattle.dock.specs.State.{ShowsDock, newDock, startOf, memoryStarted}
+use Rattle.dock.specs.State.{ShowsDock, newDock}
+use Rattle.dock.proofs.Main.{empty-shows}
+use Rattle.dock_start.specs.Start.{startOf, memoryStarted}
 use Rattle.dock.specs.declared.Dock.{Dock}
 use Rattle.dock.specs.declared.Driven.{Driven}
 
 -- the two clauses of the contract
 abbrev pub Started : Parsed → List ℕ → Driven → List ℕ → Type 0
@@ -44,32 +43,11 @@ pub ticket-refused : (k : ℕ) (r : Driven) → r ≡ record { refusal = k; dock
 unfolding startOf memoryStarted
 ticket-refused k r z before = (z, refl)
 
--- the cards at the front of memory, none held, show the empty dock of the model
-pub empty-shows : (h : Header) (cards rest : List ℕ) → Fits h cards
-    → ShowsDock (h .pool) cards emptyDock (newDock (h .pool) (length cards)) (cards ++ rest)
-empty-shows h cards rest f =
-    record {
-      frames = refl;
-      pool = refl;
-      delivered = refl;
-      holds = sym (sum-zero (length cards));
-      ended = omega arith;
-      broken = refl;
-      reading = refl;
-      busy = λ c g. getD-replicate maxCards c false false g;
-      flags = length-replicate maxCards false;
-      room = omega (arith, length-append cards rest);
-      marks = λ i g. omega (arith, List·getD-append cards rest 0 i g);
-      few = omega (arith, f .frames, f .few);
-      each-card = λ i g. omega (arith, f .each-card i g, f .card-range .1);
-      inside = omega arith;
-      ahead = λ i g e. omega arith;
-    }
-
 -- a started dock shows the empty dock of the model
 pub start-shows : (h : Header) (cards before : List ℕ) → Fits h cards → length cards ≤ length before
     → ShowsDock (h .pool) cards emptyDock (newDock (h .pool) (length cards)) (cards ++ drop (length cards) before)
-start-shows h cards before f l = empty-shows h cards (drop (length cards) before) f
+start-shows h cards before f l =
+    empty-shows (h .pool) cards (drop (length cards) before) (omega (arith, f .frames, f .few)) (λ i g. omega (arith, f .each-card i g, f .card-range .1))
 
 -- the answer to an accepted ticket with memory for its list
 pub started-shows : (t before : List ℕ) (h : Header) (cards : List ℕ) → parse t ≡ accepted h cards → length cards ≤ length before

@@ -1,9 +1,9 @@
--- `dock::start_list` meets its contract.
+-- `dock_start::start_list` meets its contract.
 -- Assumes nothing.
-use Rattle.dock.proofs.Starting.{too-short, started}
+use Rattle.dock_start.proofs.Starting.{too-short, started}
 use borrow.Author.Needs.{needs}
-use Rattle.dock.proofs.start_list.Statement.{statement}
-use Rattle.dock.proofs.start_list.Tie as tie
+use Rattle.dock_start.proofs.start_list.Statement.{statement}
+use Rattle.dock_start.proofs.start_list.Tie as tie
 
 cast-n : tie.Need-cast-n
 cast-n c = search needs

@@ -1,9 +1,9 @@
--- `dock::start` meets its contract.
+-- `dock_start::start` meets its contract.
 -- Assumes nothing.
-use Rattle.dock.proofs.Starting.{ticket-refused}
+use Rattle.dock_start.proofs.Starting.{ticket-refused}
 use borrow.Author.Needs.{needs}
-use Rattle.dock.proofs.start.Statement.{statement}
-use Rattle.dock.proofs.start.Tie as tie
+use Rattle.dock_start.proofs.start.Statement.{statement}
+use Rattle.dock_start.proofs.start.Tie as tie
 
 read-requires : tie.Need-read-requires
 read-requires c κs = search needs

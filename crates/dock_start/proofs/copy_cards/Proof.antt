@@ -1,11 +1,11 @@
--- `dock::copy_cards` meets its contract.
+-- `dock_start::copy_cards` meets its contract.
 -- Assumes nothing.
 use borrow.Author.Needs.{needs}
 use Prim.Native.Nat.{_-_}
 use native.Mathlib.Omega.{arith}
-use Rattle.dock.proofs.Placing.{Placed, none-placed, placed-length, placed-next, placed-all}
-use Rattle.dock.proofs.copy_cards.Statement.{statement}
-use Rattle.dock.proofs.copy_cards.Tie as tie
+use Rattle.dock_start.proofs.Placing.{Placed, none-placed, placed-length, placed-next, placed-all}
+use Rattle.dock_start.proofs.copy_cards.Statement.{statement}
+use Rattle.dock_start.proofs.copy_cards.Tie as tie
 
 abbrev Inv-loop : tie.InvT-loop
 Inv-loop cards memory₀ n i₀ memory i = Placed cards memory₀ i memory

@@ -1,8 +1,8 @@
--- `dock::refused` meets its contract.
+-- `dock_start::refused` meets its contract.
 -- Assumes nothing.
 use borrow.Author.Needs.{needs}
-use Rattle.dock.proofs.refused.Statement.{statement}
-use Rattle.dock.proofs.refused.Tie as tie
+use Rattle.dock_start.proofs.refused.Statement.{statement}
+use Rattle.dock_start.proofs.refused.Tie as tie
 
 empty-requires : tie.Need-empty-requires
 empty-requires c κs = search needs
