@@ -2,12 +2,12 @@
 #   make plan       prints the plan of an example ticket, or of TICKET=file
 #   make test       proves everything, tries the wrong versions, runs the test programs and compares the examples
 # For those who link the library:
-#   make firmware   builds target/staticlib/libfirmware.a and runs a small caller in C on TICKET
+#   make firmware   builds target/lib/libdockplan.a and runs a small caller in C on TICKET
 #   make host       compares every call of the library, from Rust, with an implementation of its own
 #   make bench      measures the library against C and Rust
 
 TICKET = examples/first.ticket
-LIBRARY = target/staticlib/libfirmware.a
+LIBRARY = target/lib/libdockplan.a
 CARGO = cd host && CARGO_TARGET_DIR=../target/host cargo
 
 .PHONY: plan test examples program firmware host bench
@@ -32,6 +32,7 @@ program:
 # the same for the library, which is built again when a file of a crate has changed
 $(LIBRARY): crates.txt $(shell find crates -name '*.rt' -o -name '*.antt')
 	@out=$$(rt staticlib firmware 2>&1) || { echo "$$out"; exit 1; }
+	@mkdir -p target/lib && cp target/staticlib/libfirmware.a $@
 
 firmware: $(LIBRARY)
 	@$(CC) -std=c11 -O2 -Wall -Wextra -Iinclude examples/firmware.c $(LIBRARY) -o target/firmware

@@ -25,16 +25,16 @@ fn compile(compiler: &str, source: &Path, name: &str, flags: &[&str], out: &Path
 
 fn main() {
     let out = PathBuf::from(env::var("OUT_DIR").unwrap());
-    let library = env::var("DOCKPLAN_LIB").unwrap_or_else(|_| "../target/staticlib".into());
+    let library = env::var("DOCKPLAN_LIB").unwrap_or_else(|_| "../target/lib".into());
     let library =
         std::fs::canonicalize(&library).unwrap_or_else(|_| panic!("{library} is not there: 'make host' builds it"));
     println!("cargo:rustc-link-search=native={}", library.display());
-    println!("cargo:rustc-link-lib=static=firmware");
+    println!("cargo:rustc-link-lib=static=dockplan");
     println!(
         "cargo:rustc-env=DOCKPLAN_ARCHIVE={}",
-        library.join("libfirmware.a").display()
+        library.join("libdockplan.a").display()
     );
-    println!("cargo:rerun-if-changed={}", library.join("libfirmware.a").display());
+    println!("cargo:rerun-if-changed={}", library.join("libdockplan.a").display());
     println!("cargo:rerun-if-env-changed=DOCKPLAN_LIB");
 
     println!("cargo:rustc-link-search=native={}", out.display());

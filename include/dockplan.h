@@ -1,6 +1,6 @@
 /* The dock planner for C and C++: plans, checks and runs for up to 32 memory cards and a pool of buffers.
  *
- * Link libfirmware.a (x86-64 Linux). From outside it needs memcpy and memset, and nothing else.
+ * Link libdockplan.a (x86-64 Linux). From outside it needs memcpy and memset, and nothing else.
  *
  * What holds of every call:
  *   - It is proved: for every input it does what its comment says, touches only the memory lent to it, and

@@ -77,7 +77,7 @@ fn decimals(number: f64) -> String {
 pub fn print_head(c: &[Implementation]) {
     let compilers: Vec<String> = c.iter().map(|implementation| first_line(implementation.name)).collect();
     println!("machine    {}", machine());
-    println!("library    libfirmware.a, called as C calls it");
+    println!("library    libdockplan.a, called as C calls it");
     println!("C          c/plain.c at -O3 by {}", compilers.join(" and by "));
     println!(
         "Rust-ref   src/reference by {}: simple and not tuned, its checker counts by the rule",
