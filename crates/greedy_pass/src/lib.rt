@@ -10,16 +10,21 @@ ghost use Rattle.greedy_pass.specs.Pass.{Asked, Passed};
 use counting::Cycle;
 use header::limits;
 
-// The cycle of a frame that enters: the first that its card has free, after the cycles made.
-fn next_cycle(latest: Cycle, made: Cycle) -> Cycle
-    requires { ⌜ (latest .0 ≤ maxFrames) × (made .0 ≤ maxFrames) ⌝ }
-    ensures { λ r. ⌜ r .0 ≡ max (latest .0) (made .0) + 1 ⌝ }
+// The cycle of a frame that enters: the first that its card has free, after the cycles made. Within the pass a cycle is a place in the
+// table of those due, so that no turn has to widen it.
+fn next_cycle(latest: usize, made: usize) -> usize
+    requires { ⌜ (latest ≤ maxFrames) × (made ≤ maxFrames) ⌝ }
+    ensures { λ r. ⌜ r ≡ max latest made + 1 ⌝ }
 {
-    if latest.0 < made.0 {
-        Cycle(made.0 + 1)
-    } else {
-        Cycle(latest.0 + 1)
-    }
+    if latest < made { made + 1 } else { latest + 1 }
+}
+
+// The cycle at a place of that table.
+fn cycle_at(place: usize) -> Cycle
+    requires { ⌜ place ≤ maxFrames ⌝ }
+    ensures { λ r. ⌜ r .0 ≡ place ⌝ }
+{
+    Cycle(place as u16)
 }
 
 // Where the frame stands that is taken k-th, from the front or from the back of a list of n.
@@ -63,20 +68,19 @@ pub fn pass(cards: &[u8], m: u16, back: bool, out: &mut [u16]) -> Cycles
 {
     let mut due = [0u16; limits::FRAMES + 1];
     let mut latest = [0u16; limits::CARDS];
-    let mut made = Cycle(0);
+    let mut made: usize = 0;
     let mut waiting: u16 = 0;
     let n = cards.len();
     let mut k: usize = 0;
     while k < n {
         if m <= waiting {
-            made.0 += 1;
-            waiting -= due[counting::cycle_index(made)];
+            made += 1;
+            waiting -= due[made];
         }
         let i = taken_at(back, n, k);
         let c = counting::card_index(cards[i]);
-        let last = latest[c];
-        let s = next_cycle(Cycle(last), made);
-        let u = counting::cycle_index(s);
+        let u = next_cycle(latest[c] as usize, made);
+        let s = cycle_at(u);
         latest[c] = s.0;
         due[u] = due[u] + 1;
         out[i] = s.0;
@@ -84,7 +88,7 @@ pub fn pass(cards: &[u8], m: u16, back: bool, out: &mut [u16]) -> Cycles
         k += 1;
     }
     Cycles {
-        made: made,
+        made: cycle_at(made),
         all: largest(&latest),
     }
 }

@@ -84,6 +84,23 @@ fn compare(
     Ok(expected)
 }
 
+/// Compares the verdicts on one plan.
+pub fn compare_check(
+    library: &Implementation,
+    others: &[&Implementation],
+    ticket: &[u8],
+    plan: &[u16],
+) -> Result<(), String> {
+    let expected = library.check(ticket, plan);
+    match others.iter().find(|other| other.check(ticket, plan) != expected) {
+        Some(other) => Err(format!(
+            "{} differs from the library, which answers {expected:?}",
+            other.name
+        )),
+        None => Ok(()),
+    }
+}
+
 /// Compares the answers for these tickets, and for so many mixed ones, good and bad. Every refusal and every verdict must
 /// be among them, or the comparison would be worth little.
 pub fn compare_all(

@@ -22,8 +22,41 @@ impl Random {
     }
 }
 
+/// A list of frames with its pool.
+pub struct List {
+    pub name: &'static str,
+    pool: usize,
+    pub cards: Vec<usize>,
+}
+
+impl List {
+    pub fn ticket(&self, mode: usize) -> Vec<u8> {
+        self.ticket_with_pool(mode, self.pool)
+    }
+
+    pub fn ticket_with_pool(&self, mode: usize, pool: usize) -> Vec<u8> {
+        ticket(mode, MAX_CARDS, pool, &self.cards)
+    }
+}
+
+/// The lists that are measured.
+pub fn lists() -> [List; 2] {
+    [
+        List {
+            name: "at random, pool 192",
+            pool: 192,
+            cards: random_list(&mut Random::new(0x9E37_79B9_7F4A_7C15), MAX_CARDS, MAX_FRAMES),
+        },
+        List {
+            name: "in blocks of 16, pool 1,024",
+            pool: MAX_POOL,
+            cards: list_in_blocks(MAX_CARDS, MAX_FRAMES, 16),
+        },
+    ]
+}
+
 /// The text of a ticket, edition 1.
-pub fn ticket(mode: usize, cards: usize, pool: usize, list: &[usize]) -> Vec<u8> {
+fn ticket(mode: usize, cards: usize, pool: usize, list: &[usize]) -> Vec<u8> {
     let mut text = format!("01{mode:02X}{cards:02X}{pool:04X}{:04X}\n", list.len());
     for card in list {
         text += &format!("{card:02X}\n");
@@ -32,12 +65,12 @@ pub fn ticket(mode: usize, cards: usize, pool: usize, list: &[usize]) -> Vec<u8>
 }
 
 /// Each frame on any card.
-pub fn random_list(random: &mut Random, cards: usize, frames: usize) -> Vec<usize> {
+fn random_list(random: &mut Random, cards: usize, frames: usize) -> Vec<usize> {
     (0..frames).map(|_| random.below(cards)).collect()
 }
 
 /// Blocks of frames on one card, the cards in turn.
-pub fn list_in_blocks(cards: usize, frames: usize, block: usize) -> Vec<usize> {
+fn list_in_blocks(cards: usize, frames: usize, block: usize) -> Vec<usize> {
     (0..frames).map(|position| position / block % cards).collect()
 }
 
@@ -105,4 +138,39 @@ pub fn plans(random: &mut Random, good: &[u16]) -> Vec<Vec<u16>> {
     let longer = vec![1; frames + 1];
     let [first, second, last] = [1, 2, 65_536 - frames].map(one_by_one);
     vec![good.to_vec(), changed, spread, first, second, last, small, any, longer]
+}
+
+/// A plan that no planner of ours made.
+pub struct Foreign {
+    pub name: &'static str,
+    pub cycles: Vec<u16>,
+}
+
+/// One frame a cycle; in each block the cycles fall. The blocks begin at these positions, and the last one ends the list.
+fn falling(frames: usize, starts: &[usize]) -> Vec<u16> {
+    let ends = starts[1..].iter().chain([&frames]);
+    let block = |(&start, &end): (&usize, &usize)| (start + 1..=end).rev().map(|cycle| cycle as u16);
+    starts.iter().zip(ends).flat_map(block).collect()
+}
+
+/// Dear plans for 4,096 frames and a pool of 1,000. A falling cycle makes the checker search the earlier frames of the card.
+/// A pool that is overfull in the last block alone makes it count up to there, and a cycle over 4,096 wherever it is.
+pub fn foreign_plans() -> [Foreign; 3] {
+    let valid = falling(MAX_FRAMES, &[0, 1000, 2000, 3000, 4000]);
+    let overfull = falling(MAX_FRAMES, &[0, 1000, 2000, 3000]);
+    let spread = valid.iter().map(|cycle| cycle * 15).collect();
+    [
+        Foreign {
+            name: "falling cycles",
+            cycles: valid,
+        },
+        Foreign {
+            name: "falling cycles, overfull late",
+            cycles: overfull,
+        },
+        Foreign {
+            name: "falling cycles up to 61,440",
+            cycles: spread,
+        },
+    ]
 }

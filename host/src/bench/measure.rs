@@ -7,6 +7,9 @@ use std::time::Instant;
 pub const TURNS: usize = 200;
 const NANOSECONDS_A_RUN: f64 = 250_000.0;
 
+/// The machine is quiet where the middle half of the ratios lie within this part of their median.
+pub const QUIET: f64 = 0.10;
+
 /// Nanoseconds a call in one run.
 fn run(calls: usize, call: &mut dyn FnMut()) -> f64 {
     let start = Instant::now();
@@ -37,13 +40,24 @@ impl Times {
         self.0[number].iter().copied().fold(f64::INFINITY, f64::min)
     }
 
-    /// The time of one implementation over that of another: the median of the ratios in each turn.
-    pub fn ratio(&self, number: usize, other: usize) -> f64 {
+    /// The time of one implementation over that of another.
+    pub fn ratio(&self, number: usize, other: usize) -> Ratio {
         let turns = self.0[number].iter().zip(&self.0[other]);
         let mut ratios: Vec<f64> = turns.map(|(own, other)| own / other).collect();
         ratios.sort_by(f64::total_cmp);
-        ratios[ratios.len() / 2]
+        let part = |quarters: usize| ratios[(ratios.len() - 1) * quarters / 4];
+        Ratio {
+            median: part(2),
+            quiet: part(3) - part(1) <= QUIET * part(2),
+        }
     }
+}
+
+/// The median of the ratios in each turn, and whether the machine was quiet: the middle half of them lie close together.
+#[derive(Clone, Copy)]
+pub struct Ratio {
+    pub median: f64,
+    pub quiet: bool,
 }
 
 /// Measures, where `call` makes one call of the implementation with that number.

@@ -1,43 +1,91 @@
-//! The printed table, and the lines above it that say what was measured and how.
+//! The printed table: the lines above it, which say what was measured and how, its rows, and the line that closes it.
 
 use crate::implementations::Implementation;
-use crate::measure::TURNS;
+use crate::measure::{Ratio, QUIET, TURNS};
+use crate::rows::Row;
 use std::fs::read_to_string;
 use std::process::Command;
 
-/// What a row should reach.
-#[derive(Clone, Copy)]
-pub enum Target {
-    /// Within 1.10 of the faster C.
-    LikeC,
-    /// Under 100 nanoseconds a frame.
-    HundredNanoseconds,
-    None,
-}
-
-/// Nanoseconds a frame for the library, for each C compiler and for Rust; and the library's time over each of the others.
-pub struct Row {
-    pub name: &'static str,
-    pub list: &'static str,
+/// What was measured of a row: for the library, each C compiler and Rust the nanoseconds a frame, for the library and each
+/// C compiler the instructions a frame, and the library's time over that of each C compiler.
+pub struct Measures {
     pub nanoseconds: Vec<f64>,
-    pub ratios: Vec<f64>,
-    pub target: Target,
+    pub instructions: Option<Vec<f64>>,
+    pub ratios: Vec<Ratio>,
 }
 
-impl Row {
-    /// The ratio to the faster C: the larger of those to each compiler. The last ratio is that to Rust.
-    fn to_faster_c(&self) -> f64 {
-        let compilers = self.ratios.len() - 1;
-        self.ratios[..compilers].iter().copied().fold(0.0, f64::max)
+/// Whether a measure is within its target. It is not judged where there is none.
+#[derive(Clone, Copy, PartialEq)]
+enum Judged {
+    Met,
+    Missed,
+    NotJudged,
+}
+
+impl Measures {
+    /// The ratio to the C compiler that was faster here: the larger one.
+    fn time(&self) -> Ratio {
+        let larger = |a: Ratio, b: &Ratio| if b.median > a.median { *b } else { a };
+        self.ratios[1..].iter().fold(self.ratios[0], larger)
     }
 
-    fn verdict(&self) -> String {
-        let (target, holds) = match self.target {
-            Target::LikeC => ("1.10 of C", self.to_faster_c() <= 1.10),
-            Target::HundredNanoseconds => ("100 ns", self.nanoseconds[0] < 100.0),
-            Target::None => return "-".into(),
+    /// The library's instructions over those of the C compiler that needs fewer.
+    fn instructions(&self) -> Option<f64> {
+        let counts = self.instructions.as_ref()?;
+        Some(counts[0] / counts[1..].iter().copied().fold(f64::INFINITY, f64::min))
+    }
+
+    fn judge_time(&self, target: f64) -> Judged {
+        match self.time() {
+            Ratio { quiet: false, .. } => Judged::NotJudged,
+            Ratio { median, .. } => judge(median, target),
+        }
+    }
+
+    fn judge_instructions(&self, target: f64) -> Judged {
+        self.instructions()
+            .map_or(Judged::NotJudged, |ratio| judge(ratio, target))
+    }
+}
+
+fn judge(ratio: f64, target: f64) -> Judged {
+    if ratio <= target {
+        Judged::Met
+    } else {
+        Judged::Missed
+    }
+}
+
+/// How many rows met their target, by time and by instructions.
+#[derive(Default)]
+pub struct Tally {
+    time: Count,
+    instructions: Count,
+}
+
+#[derive(Default)]
+struct Count {
+    met: usize,
+    missed: usize,
+    not_judged: usize,
+}
+
+impl Count {
+    fn add(&mut self, judged: Judged) {
+        match judged {
+            Judged::Met => self.met += 1,
+            Judged::Missed => self.missed += 1,
+            Judged::NotJudged => self.not_judged += 1,
+        }
+    }
+
+    fn words(&self) -> String {
+        let rows = self.met + self.missed + self.not_judged;
+        let not_judged = match self.not_judged {
+            0 => String::new(),
+            some => format!(" ({some} not judged)"),
         };
-        format!("{target}: {}", if holds { "holds" } else { "MISSED" })
+        format!("{} of {rows}{not_judged}", self.met)
     }
 }
 
@@ -59,22 +107,13 @@ fn machine() -> String {
         .into()
 }
 
-/// A line of the table from its cells. The first two are names, the last is the target.
-fn print_cells(names: [&str; 2], numbers: &[String], target: &str) {
-    let numbers: String = numbers.iter().map(|number| format!("{number:>10}")).collect();
-    println!("{:<23} {:<6}{numbers}  {target}", names[0], names[1]);
+/// A line of the table from its cells.
+fn print_cells(call: &str, given: &str, numbers: impl Iterator<Item = String>, target: &str) {
+    let numbers: String = numbers.map(|number| format!("{number:>9}")).collect();
+    println!("{call:<9}{given:<47}{numbers}  {target}");
 }
 
-/// Two decimals, or four for a very small number.
-fn decimals(number: f64) -> String {
-    if number < 0.1 {
-        format!("{number:.4}")
-    } else {
-        format!("{number:.2}")
-    }
-}
-
-pub fn print_head(c: &[Implementation]) {
+pub fn print_head(c: &[Implementation], counted: bool) {
     let compilers: Vec<String> = c.iter().map(|implementation| first_line(implementation.name)).collect();
     println!("machine    {}", machine());
     println!("library    libdockplan.a, called as C calls it");
@@ -83,24 +122,75 @@ pub fn print_head(c: &[Implementation]) {
         "Rust-ref   src/reference by {}: simple and not tuned, its checker counts by the rule",
         first_line("rustc")
     );
-    println!("lists      4,096 frames over 32 cards; random: pool 192; blocks of 16 frames on one card: pool 1,024");
-    println!("times      nanoseconds a frame: the least of {TURNS} runs of 0.25 ms, all taken in turns; each call has the same ticket,");
-    println!("           and buffers are not cleared between calls");
-    println!("lib/...    the library's time over the other's, the median of the turns; lib/C over the faster C");
+    println!("given      4,096 frames over 32 cards; the checker has the planner's own plan, or falling cycles, which are dear");
+    println!("ns         nanoseconds a frame: the least of {TURNS} runs of 0.25 ms, all taken in turns; buffers are not cleared between calls");
+    println!(
+        "ins        instructions a frame, {}",
+        if counted {
+            "counted by valgrind in one call"
+        } else {
+            "not counted: valgrind is not there"
+        }
+    );
+    println!("lib/C      the library's over the better C's. Time is the median of the turns, and ~ says that the machine was not quiet: the");
+    println!("           middle half of the turns spread over more than {QUIET:.2} of it, and the time is not judged");
     println!();
-    let names = c.iter().map(|implementation| implementation.name);
-    let times = ["library"]
-        .into_iter()
-        .chain(names.clone())
-        .chain(["Rust-ref"])
-        .map(String::from);
-    let ratios = names.chain(["ref", "C"]).map(|name| format!("lib/{name}"));
-    print_cells(["call", "list"], &times.chain(ratios).collect::<Vec<_>>(), "target");
+    let names: Vec<&str> = c.iter().map(|implementation| implementation.name).collect();
+    let measured = |unit| {
+        let own = ["library"].into_iter().chain(names.iter().copied());
+        own.map(move |name| format!("{name} {unit}")).map(short)
+    };
+    let columns = measured("ns")
+        .chain(["Rust ns".into()])
+        .chain(measured("ins"))
+        .chain(["time".into(), "ins".into()]);
+    print_cells("call", "given", columns, "target");
 }
 
-pub fn print_row(row: &Row) {
-    let times = row.nanoseconds.iter().copied();
-    let ratios = row.ratios.iter().copied().chain([row.to_faster_c()]);
-    let numbers: Vec<String> = times.chain(ratios).map(decimals).collect();
-    print_cells([row.name, row.list], &numbers, &row.verdict());
+/// "library" is "lib" in the head of a column.
+fn short(name: String) -> String {
+    name.replace("library", "lib")
+}
+
+fn words(target: f64, time: Judged, instructions: Judged) -> String {
+    let missed = match (time == Judged::Missed, instructions == Judged::Missed) {
+        (false, false) => return format!("{target:.2}"),
+        (true, false) => "time",
+        (false, true) => "instructions",
+        (true, true) => "both",
+    };
+    format!("{target:.2}: {missed} over")
+}
+
+pub fn print_row(row: &Row, measures: &Measures, tally: &mut Tally) {
+    let number = |number: &f64| format!("{number:.2}");
+    let time = measures.time();
+    let mark = if time.quiet { "" } else { "~" };
+    let instructions = match &measures.instructions {
+        Some(counts) => counts.iter().map(number).collect(),
+        None => vec!["-".to_string(); measures.ratios.len() + 1],
+    };
+    let ratios = [
+        format!("{mark}{:.2}", time.median),
+        measures.instructions().as_ref().map_or("-".into(), number),
+    ];
+    let cells = measures
+        .nanoseconds
+        .iter()
+        .map(number)
+        .chain(instructions)
+        .chain(ratios);
+    let judged = (measures.judge_time(row.target), measures.judge_instructions(row.target));
+    tally.time.add(judged.0);
+    tally.instructions.add(judged.1);
+    print_cells(row.call, &row.given, cells, &words(row.target, judged.0, judged.1));
+}
+
+pub fn print_tally(tally: &Tally) {
+    println!();
+    println!(
+        "On this machine, in this run, {} rows met their target by time and {} by instructions.",
+        tally.time.words(),
+        tally.instructions.words()
+    );
 }

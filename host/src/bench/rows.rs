@@ -1,0 +1,121 @@
+//! What is measured: the calls, what each is given, and what it should reach.
+
+use crate::compare::own_plan;
+use crate::implementations::{Implementation, LIBRARY};
+use crate::inputs::{self, List, MAX_FRAMES, MAX_PRINTED_BYTES};
+use std::hint::black_box;
+
+const READ: usize = 0;
+const SAVE: usize = 1;
+const SAVE_AND_KEEP: usize = 2;
+pub const MODES: [usize; 3] = [READ, SAVE, SAVE_AND_KEEP];
+
+/// The pool that the foreign plans are made for.
+const FOREIGN_POOL: usize = 1000;
+
+/// The library's part of the faster C's time, and of the fewer instructions, that a row may reach.
+const READER_AND_PLANNER: f64 = 1.05;
+const OTHERS: f64 = 1.10;
+
+/// A call, what it is given in words, and its target.
+pub struct Row {
+    pub call: &'static str,
+    pub given: String,
+    pub target: f64,
+    pub make: fn(&Implementation, &mut Work),
+    pub work: Work,
+}
+
+/// What a measured call is given: a ticket, a plan to check, and buffers that are not cleared between calls.
+pub struct Work {
+    pub ticket: Vec<u8>,
+    pub checked: Vec<u16>,
+    plan: Vec<u16>,
+    text: Vec<u8>,
+}
+
+impl Work {
+    fn new(ticket: Vec<u8>, checked: Vec<u16>) -> Work {
+        Work {
+            ticket,
+            checked,
+            plan: vec![0; MAX_FRAMES],
+            text: vec![0; MAX_PRINTED_BYTES],
+        }
+    }
+
+    pub fn frames(&self) -> usize {
+        self.checked.len()
+    }
+}
+
+fn parse(implementation: &Implementation, work: &mut Work) {
+    black_box(implementation.parse(black_box(&work.ticket)));
+}
+
+fn plan(implementation: &Implementation, work: &mut Work) {
+    black_box(implementation.plan(black_box(&work.ticket), black_box(&mut work.plan)));
+}
+
+fn check(implementation: &Implementation, work: &mut Work) {
+    black_box(implementation.check(black_box(&work.ticket), black_box(&work.checked)));
+}
+
+fn print(implementation: &Implementation, work: &mut Work) {
+    black_box(implementation.print(black_box(&work.ticket), black_box(&mut work.text)));
+}
+
+fn mode_name(mode: usize) -> &'static str {
+    ["read", "save", "save and keep"][mode]
+}
+
+/// The rows of one list: every call on its tickets, and the checker on the plans that the planner makes of them.
+fn own_rows(list: &List) -> Vec<Row> {
+    let row = |call, mode, target, make| {
+        let ticket = list.ticket(mode);
+        let checked = own_plan(&LIBRARY, &ticket);
+        Row {
+            call,
+            given: format!("{}, {}", mode_name(mode), list.name),
+            target,
+            make,
+            work: Work::new(ticket, checked),
+        }
+    };
+    vec![
+        row(
+            "reader",
+            READ,
+            READER_AND_PLANNER,
+            parse as fn(&Implementation, &mut Work),
+        ),
+        row("planner", READ, READER_AND_PLANNER, plan),
+        row("planner", SAVE, READER_AND_PLANNER, plan),
+        row("planner", SAVE_AND_KEEP, READER_AND_PLANNER, plan),
+        row("checker", READ, OTHERS, check),
+        row("checker", SAVE, OTHERS, check),
+        row("printing", READ, OTHERS, print),
+    ]
+}
+
+/// The checker on plans that are not ours, the dearest found.
+fn foreign_rows(list: &List) -> Vec<Row> {
+    let plans = inputs::foreign_plans();
+    let row = |mode, plan: &inputs::Foreign| Row {
+        call: "checker",
+        given: format!("{}, pool 1,000, {}", mode_name(mode), plan.name),
+        target: OTHERS,
+        make: check,
+        work: Work::new(list.ticket_with_pool(mode, FOREIGN_POOL), plan.cycles.clone()),
+    };
+    let modes = [READ, SAVE];
+    modes
+        .iter()
+        .flat_map(|&mode| plans.iter().map(move |plan| row(mode, plan)))
+        .collect()
+}
+
+pub fn rows(lists: &[List]) -> Vec<Row> {
+    let own = lists.iter().flat_map(own_rows);
+    own.chain(foreign_rows(&lists[0])).collect()
+}
