@@ -10,6 +10,10 @@ static uint16_t plan[DOCKPLAN_MAX_FRAMES];
 
 int main(void)
 {
+    if (dockplan_version() != DOCKPLAN_VERSION) {
+        printf("this library does not belong to the header\n");
+        return 1;
+    }
     size_t bytes = fread(ticket, 1, sizeof ticket, stdin);
     dockplan_ticket_answer header = dockplan_parse(ticket, bytes);
     dockplan_plan_answer answer = dockplan_plan(ticket, bytes, plan, DOCKPLAN_MAX_FRAMES);

@@ -1,6 +1,11 @@
 /* The dock planner for C and C++: plans, checks and runs for up to 32 memory cards and a pool of buffers.
  *
- * Link libdockplan.a (x86-64 Linux). From outside it needs memcpy and memset, and nothing else.
+ * For x86-64 Linux, C99 and later, C++11 and later. `make firmware` puts the archive into target/lib; link it by
+ *
+ *     cc -Iinclude caller.c target/lib/libdockplan.a          (beside the sources)
+ *     cc caller.c $(pkg-config --cflags --libs dockplan)      (after make install PREFIX=...)
+ *
+ * From outside it needs memcpy and memset, and nothing else.
  *
  * What holds of every call:
  *   - It is proved: for every input it does what its comment says, touches only the memory lent to it, and
@@ -42,6 +47,13 @@
 #ifdef __cplusplus
 extern "C" {
 #endif
+
+/* The version of this header: 100 for 1.0. It grows whenever a call is added or changed. */
+#define DOCKPLAN_VERSION 100
+
+/* The version of the archive. Header and archive belong together exactly when this is DOCKPLAN_VERSION. */
+uint32_t dockplan_version(void);
+#define DOCKPLAN_STACK_VERSION 0
 
 /* The limits of a ticket. */
 #define DOCKPLAN_MAX_CARDS 32

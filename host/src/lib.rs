@@ -7,6 +7,12 @@ pub mod reference;
 
 pub use raw::{Cycle, Position};
 
+/// Whether the archive that is linked is the one that these wrappers are written for.
+pub fn belongs_together() -> bool {
+    // SAFETY: the call takes nothing.
+    unsafe { raw::dockplan_version() == raw::VERSION }
+}
+
 /// The number of the refusal that a call met, 1 to 16. It is never 0.
 #[derive(Clone, Copy, Debug, PartialEq, Eq)]
 pub struct Refusal(pub u8);

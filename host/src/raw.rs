@@ -1,6 +1,9 @@
 //! The calls of include/dockplan.h as they are. The structs are laid out as there, which tests/layout.rs compares.
 //! The default of an answer is all zeros, as beside a refusal.
 
+/// The version of the header that this file repeats.
+pub const VERSION: u32 = 100;
+
 /// A cycle, counted from 1.
 #[repr(C)]
 #[derive(Clone, Copy, Debug, Default, PartialEq, Eq)]
@@ -97,6 +100,7 @@ pub struct SaverAnswer {
 }
 
 extern "C" {
+    pub fn dockplan_version() -> u32;
     pub fn dockplan_parse(ticket: *const u8, bytes: usize) -> TicketAnswer;
     pub fn dockplan_line(ticket: *const u8, bytes: usize, position: Position) -> Part;
     pub fn dockplan_line_refusal(ticket: *const u8, bytes: usize, position: Position) -> u8;

@@ -157,6 +157,7 @@ fn archive_needs_memcpy_and_memset_alone() {
 fn archive_has_the_calls() {
     let defined = names("--defined-only");
     for call in [
+        "version",
         "parse",
         "line",
         "line_refusal",

@@ -84,6 +84,7 @@ fn cycles_and_positions_are_not_plain_numbers() {
 #[test]
 fn constants_are_those_of_the_header() {
     let constants = [
+        ("VERSION", VERSION as usize),
         ("NO_VERDICT", usize::from(NO_VERDICT)),
         ("VALID", usize::from(VALID)),
         ("NO_CYCLE", usize::from(NO_CYCLE)),
@@ -100,6 +101,12 @@ fn constants_are_those_of_the_header() {
         ("SAVE_AND_KEEP", 2),
     ];
     compile(&constants.map(|(name, value)| format!("_Static_assert(DOCKPLAN_{name} == {value}, \"{name}\");\n")));
+}
+
+/// The version that the header states is the one that the archive answers.
+#[test]
+fn header_and_archive_belong_together() {
+    assert!(dockplan::belongs_together());
 }
 
 #[test]

@@ -165,6 +165,12 @@ fn most<I>(call: Address, inputs: &[I], make: impl Fn(Address, &I)) -> usize {
     uses.max().unwrap_or(0)
 }
 
+fn version() -> usize {
+    own_use(raw::dockplan_version as Address, |call| unsafe {
+        black_box(transmute::<Address, unsafe extern "C" fn() -> u32>(call)());
+    })
+}
+
 /// A call on a ticket alone, with an answer `A`.
 fn on_ticket<A>(call: Address) -> usize {
     type Call<A> = unsafe extern "C" fn(*const u8, usize) -> MaybeUninit<A>;
@@ -258,6 +264,7 @@ fn figures() -> Vec<Figure> {
     let saver_result = size_of::<SaverAnswer>();
     let record = size_of::<Saver>().next_multiple_of(8);
     vec![
+        figure("VERSION", version(), 0, 0),
         figure("PARSE", on_ticket::<TicketAnswer>(raw::dockplan_parse as Address), 0, 0),
         figure("LINE", at_position::<Part>(raw::dockplan_line as Address), 0, 0),
         figure(

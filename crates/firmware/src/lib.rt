@@ -4,3 +4,4 @@ pub mod checks;
 pub mod plans;
 pub mod savers;
 pub mod tickets;
+pub mod version;
