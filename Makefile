@@ -1,29 +1,37 @@
 # The two commands that a newcomer needs:
 #   make plan       prints the plan of an example ticket, or of TICKET=file
-#   make test       proves everything, tries the wrong versions, runs the test programs and compares the examples
+#   make test       passes everything: the gate (proofs, wrong versions, test programs), the examples, the library from Rust
+# For support:
+#   make explain    says in words what TICKET=file asks for, or where its refusal stands, and checks the plan beside it
 # For those who link the library:
-#   make firmware   builds target/lib/libdockplan.a and runs a small caller in C on TICKET
+#   make firmware   builds target/lib/libdockplan.a and runs two small callers in C, the first one on TICKET
+#   make install    copies header, archive and a pkg-config file to PREFIX
 #   make host       compares every call of the library, from Rust, with an implementation of its own
-#   make bench      measures the library against C and Rust
+#   make bench      measures the library against C and Rust, by time and by instructions
 
 TICKET = examples/first.ticket
+PREFIX = /usr/local
 LIBRARY = target/lib/libdockplan.a
 CARGO = cd host && CARGO_TARGET_DIR=../target/host cargo
+CC_WARNED = $(CC) -std=c99 -O2 -Wall -Wextra -Wpedantic -Iinclude
 
-.PHONY: plan test examples program firmware host bench
+.PHONY: plan test examples program firmware install host bench
 
 plan: program
 	@target/bin/dockplan < $(TICKET)
 
 test:
 	@.ci/run
+	@echo "gate: every crate is proved, every wrong version was refused, every test program printed what it must"
 	@$(MAKE) --no-print-directory examples
+	@$(MAKE) --no-print-directory host
+	@echo "host: every call of the library answered as the implementation in Rust does"
 
 # what the program prints for each example ticket, compared with the plan beside it
 examples: program
 	@for t in examples/*.ticket; do \
 	  target/bin/dockplan < $$t | cmp - $${t%.ticket}.plan || exit 1; \
-	done; echo "examples: $$(ls examples/*.ticket | wc -l) as expected"
+	done; echo "examples: the program printed the plan beside each of the $$(ls examples/*.ticket | wc -l) tickets"
 
 # proves the program and what it stands on, and builds it; the first time takes a minute or two
 program:
@@ -32,11 +40,24 @@ program:
 # the same for the library, which is built again when a file of a crate has changed
 $(LIBRARY): crates.txt $(shell find crates -name '*.rt' -o -name '*.antt')
 	@out=$$(rt staticlib firmware 2>&1) || { echo "$$out"; exit 1; }
-	@mkdir -p target/lib && cp target/staticlib/libfirmware.a $@
+	@mkdir -p $(dir $@) && cp target/staticlib/libfirmware.a $@
 
 firmware: $(LIBRARY)
-	@$(CC) -std=c11 -O2 -Wall -Wextra -Iinclude examples/firmware.c $(LIBRARY) -o target/firmware
+	@$(CC_WARNED) examples/firmware.c $(LIBRARY) -o target/firmware
+	@$(CC_WARNED) examples/saver.c $(LIBRARY) -o target/saver
 	@target/firmware < $(TICKET)
+	@echo "and saved as they come, cards 0 0 1 with a pool of 2:"
+	@echo 0 0 1 | target/saver 2 2
+
+# the version stands in the header; DESTDIR goes before PREFIX for those who make packages
+install: $(LIBRARY)
+	@install -d $(DESTDIR)$(PREFIX)/include $(DESTDIR)$(PREFIX)/lib/pkgconfig
+	@install -m 644 include/dockplan.h $(DESTDIR)$(PREFIX)/include
+	@install -m 644 $(LIBRARY) $(DESTDIR)$(PREFIX)/lib
+	@version=$$(awk '/define DOCKPLAN_VERSION /{printf "%d.%d", $$3 / 100, $$3 % 100}' include/dockplan.h); \
+	sed -e "s|@PREFIX@|$(abspath $(PREFIX))|" -e "s|@VERSION@|$$version|" include/dockplan.pc.in \
+	  > $(DESTDIR)$(PREFIX)/lib/pkgconfig/dockplan.pc; \
+	echo "install: header, archive and dockplan.pc of version $$version in $(DESTDIR)$(PREFIX)"
 
 host: $(LIBRARY)
 	@$(CARGO) test --release --offline --quiet -- --nocapture
