@@ -20,7 +20,8 @@ use Rattle.schedule.specs.Verdict as theory
 use Rattle.schedule.proofs.Exact.{Faultless, by-fault, judged-no-cycle, judged-shared, judged-overfull, judged-faultless}
 use Rattle.header.specs.Limits.{maxCards}
 use Rattle.pool_counts.specs.Counts.{backlogOf}
-use Rattle.plan_faults.specs.Faults.{Checking, NoneAfter, Roomy, faultAt, foundIn, isNothing, frameFault, firstFault}
+use Rattle.plan_faults.specs.Faults.{Checking, Roomy, faultAt, foundIn, isNothing, firstFault}
+use Rattle.plan_faults.proofs.Sharing.{NoneAfter, not-shared-later}
 use Rattle.plan_faults.specs.declared.Found.{Found}
 use Rattle.plan_faults.specs.declared.Found.the-variants.{Nothing}
 
@@ -56,6 +57,10 @@ module _ (backlog : List ℕ → ℕ → ℕ) (m : ℕ) (cards cycles : List ℕ
 pub not-overfull : (save : Bool) (m : ℕ) (cycles : List ℕ) (i : ℕ) → Roomy save m cycles → i < length cycles
     → false ≡ leb m (backlogOf save cycles i)
 not-overfull save m cycles i v l = sym (lt-leb m (backlogOf save cycles i) (v .each i l))
+
+-- what is found with frame i
+unfoldable pub frameFault : Bool → ℕ → List ℕ → List ℕ → ℕ → Found
+frameFault save m cards cycles i = foundIn (judge (backlogOf save) m cards cycles i clear)
 
 -- frame by frame: what the tests of a frame say
 module _ (save : Bool) (m : ℕ) (cards cycles : List ℕ) (i : ℕ) where
@@ -112,28 +117,51 @@ module _ {save : Bool} {m : ℕ} {cards cycles latest : List ℕ} {i : ℕ} (v :
           ∙ sym apart
           ∙ v .rest)
 
-      pub next-frame : isNothing r ≡ true → {s : ℕ} → s ≡ max (getD latest c 0) (cycleOf cycles i)
-          → Frames save m cards cycles (set latest c s) (i + 1)
-      unfolding frameFault
-      next-frame e {s} s-is =
-          record {
-            inside = omega arith;
-            rest =
-                sym (judged-faultless (backlogOf save) m cards cycles i (judgeFrom (backlogOf save) m cards cycles (length cards - (i + 1)) (i + 1) clear)
-                (passes (backlogOf save) m cards cycles i (sym (ap isNothing r-is) ∙ e)))
-                ∙ sym apart
-                ∙ v .rest;
-            long = length-set latest c s ∙ v .long;
-            late = λ j k.
-                elim (ℕ-discrete (cardOf cards j) c) [
-                  | yes q ↦
-                      rw (q, getD-set-same latest c s 0 (omega (arith, v .long, card-inside)))
-                      (elim (ℕ-discrete j i) [ yes z ↦ rw z (omega arith) | no z ↦ omega (arith, rw q at (v .late j (omega arith))) ])
-                  | no q ↦
-                      rw (getD-set-other latest c (cardOf cards j) s 0 q)
-                      (elim (ℕ-discrete j i) [ yes z ↦ absurd (q (rw z (sym c-is))) | no z ↦ v .late j (omega arith) ])
-                ];
-          }
+    -- the tests of frame i before its pool, and the table after it
+    pub record Settled (latest′ : List ℕ) : Type 0 where
+      pub has-cycle : cycleOf cycles i ≢ 0
+      pub alone : shares cards cycles i ≡ false
+      pub same-long : length latest′ ≡ maxCards
+      pub kept : (x : ℕ) → getD latest x 0 ≤ getD latest′ x 0
+      pub covered : cycleOf cycles i ≤ getD latest′ c 0
+
+    -- its cycle is after all earlier ones of its card
+    pub after-all : getD latest c 0 < cycleOf cycles i → Settled (set latest c (cycleOf cycles i))
+    after-all h =
+        let here = getD-set-same latest c (cycleOf cycles i) 0 (omega (arith, v .long, card-inside)) in
+        record {
+          has-cycle = λ e. omega arith;
+          alone = sym (not-shared-later cards cycles i (getD latest c 0) none-after h);
+          same-long = length-set latest c (cycleOf cycles i) ∙ v .long;
+          kept = λ x.
+              elim (ℕ-discrete x c) [
+                | yes q ↦ rw (q, here) (omega arith)
+                | no q ↦ rw (getD-set-other latest c x (cycleOf cycles i) 0 q) (omega arith)
+              ];
+          covered = omega (arith, here);
+        }
+
+    -- or it is not, and the earlier frames were searched
+    pub searched : cycleOf cycles i ≤ getD latest c 0 → cycleOf cycles i ≢ 0 → shares cards cycles i ≡ false → Settled latest
+    searched h n s = record { has-cycle = n; alone = s; same-long = v .long; kept = λ x. omega arith; covered = h }
+
+    pub next-frame : {latest′ : List ℕ} → Settled latest′ → leb m (backlogOf save cycles i) ≡ false → Frames save m cards cycles latest′ (i + 1)
+    unfolding frameFault
+    next-frame {latest′} w e =
+        record {
+          inside = omega arith;
+          rest =
+              sym (judged-faultless (backlogOf save) m cards cycles i (judgeFrom (backlogOf save) m cards cycles (length cards - (i + 1)) (i + 1) clear)
+              (passes (backlogOf save) m cards cycles i (sym (ap isNothing (says-clear save m cards cycles i (w .has-cycle) (w .alone) e)))))
+              ∙ sym apart
+              ∙ v .rest;
+          long = w .same-long;
+          late = λ j k.
+              elim (ℕ-discrete j i) [
+                | yes z ↦ rw (z, ← c-is) (w .covered)
+                | no z ↦ omega (arith, v .late j (omega arith), w .kept (cardOf cards j))
+              ];
+        }
 
   pub no-fault : length cards ≤ i → Nothing ≡ firstFault save m cards cycles
   unfolding firstFault

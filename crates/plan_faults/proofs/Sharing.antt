@@ -16,7 +16,6 @@ use Rattle.schedule.specs.Verdict.{shares}
 use Rattle.counting.proofs.Bits.{bit-and-off}
 use Rattle.counting.proofs.Sums.{sum-term-le}
 use Rattle.schedule.proofs.Exact.{apart-alone}
-use Rattle.plan_faults.specs.Faults.{NoneAfter}
 
 -- frame k has the card and the cycle of frame i
 abbrev same : List ℕ → List ℕ → ℕ → ℕ → Bool
@@ -55,7 +54,11 @@ module _ {cards cycles : List ℕ} {i j : ℕ} (v : Apart cards cycles i j) wher
       let one : bit (same cards cycles i j) ≡ 1 = rw (eq-eqb (cardOf cards j) (cardOf cards i) c, eq-eqb (cycleOf cycles j) (cycleOf cycles i) e) in
       sym (lt-ltb 0 (howMany i (same cards cycles i)) (omega (arith, sum-term-le i (λ k. bit (same cards cycles i k)) j l)))
 
--- no earlier frame of the card has a cycle after `latest`, so none has a later one than that
+-- no frame before frame i and of its card has a cycle after `latest`
+pub record NoneAfter (cards cycles : List ℕ) (i latest : ℕ) : Type 0 where
+  pub each : (j : ℕ) → j < i → cardOf cards j ≡ cardOf cards i → cycleOf cycles j ≤ latest
+
+-- so none has a later cycle than that
 pub not-shared-later : (cards cycles : List ℕ) (i latest : ℕ) → NoneAfter cards cycles i latest
     → latest < cycleOf cycles i → false ≡ shares cards cycles i
 not-shared-later cards cycles i latest h l = sym (apart-alone oBacklog 0 cards cycles i (λ j k c e. omega (arith, h .each j k c)))

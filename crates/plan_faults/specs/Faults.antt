@@ -6,8 +6,7 @@ use mathlib.Core.Bool.{Bool, true, false}
 use mathlib.Core.List.{List}
 use lib.ListN.{length}
 use Rattle.counting.specs.Frames.{cardOf}
-use Rattle.schedule.specs.Schedule.{cycleOf}
-use Rattle.schedule.specs.Verdict.{Fault, noCycle, sharedCard, overfull, Verdict, valid, faulty, judge, judgeFrom}
+use Rattle.schedule.specs.Verdict.{Fault, noCycle, sharedCard, overfull, Verdict, valid, faulty, judgeFrom}
 use Rattle.header.specs.Limits.{maxCards, maxFrames}
 use Rattle.pool_counts.specs.Counts.{backlogOf}
 use Rattle.plan_faults.specs.declared.Found.{Found}
@@ -22,10 +21,6 @@ pub record Checking (cards cycles : List ℕ) : Type 0 where
 -- no pool is overfull
 pub record Roomy (save : Bool) (m : ℕ) (cycles : List ℕ) : Type 0 where
   pub each : (i : ℕ) → i < length cycles → backlogOf save cycles i < m
-
--- no frame before frame i and of its card has a cycle after `latest`
-pub record NoneAfter (cards cycles : List ℕ) (i latest : ℕ) : Type 0 where
-  pub each : (j : ℕ) → j < i → cardOf cards j ≡ cardOf cards i → cycleOf cycles j ≤ latest
 
 -- what is found, from the verdict of the theory, whose faults are found in the same order
 abbrev pub faultAt : ℕ → Fault → Found
@@ -43,9 +38,6 @@ isNothing (CycleMissing p) = false
 isNothing (CardShared p) = false
 isNothing (PoolOverfull p) = false
 
--- with frame i, and in the whole list
-unfoldable pub frameFault : Bool → ℕ → List ℕ → List ℕ → ℕ → Found
-frameFault save m cards cycles i = foundIn (judge (backlogOf save) m cards cycles i (valid 0 0))
-
+-- in the whole list
 unfoldable pub firstFault : Bool → ℕ → List ℕ → List ℕ → Found
 firstFault save m cards cycles = foundIn (judgeFrom (backlogOf save) m cards cycles (length cards) 0 (valid 0 0))
