@@ -74,9 +74,10 @@ fn own_rows(list: &List) -> Vec<Row> {
     let row = |call, mode, target, make| {
         let ticket = list.ticket(mode);
         let checked = own_plan(&LIBRARY, &ticket);
+        let plan = if call == "checker" { ", own plan" } else { "" };
         Row {
             call,
-            given: format!("{}, {}", mode_name(mode), list.name),
+            given: format!("{}, {}{plan}", mode_name(mode), list.name),
             target,
             make,
             work: Work::new(ticket, checked),
@@ -103,7 +104,7 @@ fn foreign_rows(list: &List) -> Vec<Row> {
     let plans = inputs::foreign_plans();
     let row = |mode, plan: &inputs::Foreign| Row {
         call: "checker",
-        given: format!("{}, pool 1,000, {}", mode_name(mode), plan.name),
+        given: format!("{}, at random, pool 1,000, {}", mode_name(mode), plan.name),
         target: OTHERS,
         make: check,
         work: Work::new(list.ticket_with_pool(mode, FOREIGN_POOL), plan.cycles.clone()),

@@ -80,12 +80,8 @@ impl Count {
     }
 
     fn words(&self) -> String {
-        let rows = self.met + self.missed + self.not_judged;
-        let not_judged = match self.not_judged {
-            0 => String::new(),
-            some => format!(" ({some} not judged)"),
-        };
-        format!("{} of {rows}{not_judged}", self.met)
+        let [met, missed, not_judged] = [self.met, self.missed, self.not_judged];
+        format!("{met} met it, {missed} missed it, {not_judged} not judged")
     }
 }
 
@@ -109,8 +105,8 @@ fn machine() -> String {
 
 /// A line of the table from its cells.
 fn print_cells(call: &str, given: &str, numbers: impl Iterator<Item = String>, target: &str) {
-    let numbers: String = numbers.map(|number| format!("{number:>9}")).collect();
-    println!("{call:<9}{given:<47}{numbers}  {target}");
+    let numbers: String = numbers.map(|number| format!("{number:>10}")).collect();
+    println!("{call:<9}{given:<55}{numbers}  {target}");
 }
 
 pub fn print_head(c: &[Implementation], counted: bool) {
@@ -122,7 +118,8 @@ pub fn print_head(c: &[Implementation], counted: bool) {
         "Rust-ref   src/reference by {}: simple and not tuned, its checker counts by the rule",
         first_line("rustc")
     );
-    println!("given      4,096 frames over 32 cards; the checker has the planner's own plan, or falling cycles, which are dear");
+    println!("given      4,096 frames over 32 cards, and the kind of ticket; the checker also a plan: the planner's own, or a foreign one that is");
+    println!("           dear to check, its cycles falling in blocks of 1,000 frames or, where it is overfull late, in a last one of 1,096");
     println!("ns         nanoseconds a frame: the least of {TURNS} runs of 0.25 ms, all taken in turns; buffers are not cleared between calls");
     println!(
         "ins        instructions a frame, {}",
@@ -188,9 +185,7 @@ pub fn print_row(row: &Row, measures: &Measures, tally: &mut Tally) {
 
 pub fn print_tally(tally: &Tally) {
     println!();
-    println!(
-        "On this machine, in this run, {} rows met their target by time and {} by instructions.",
-        tally.time.words(),
-        tally.instructions.words()
-    );
+    println!("Rows and their target, on this machine and in this run:");
+    println!("by time          {}", tally.time.words());
+    println!("by instructions  {}", tally.instructions.words());
 }
