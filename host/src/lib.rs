@@ -1,7 +1,9 @@
 //! The dock planner for Rust: safe wrappers over the calls of include/dockplan.h.
 //! Slices carry the pointers and counts, refusals are errors, and nothing here panics.
-//! `raw` has the calls as they are, `reference` an implementation of its own that the tests compare them with.
+//! `raw` has the calls as they are, `reference` an implementation of its own that the tests compare them with, and
+//! `explain` says in words what the calls answer.
 
+pub mod explain;
 pub mod raw;
 pub mod reference;
 
