@@ -1,0 +1,460 @@
+//! What `explain` says of tickets, word for word: what an accepted one asks for, every refusal, the commonest causes.
+//! The expected texts are written by hand.
+
+use dockplan::explain::{explain, File};
+
+const FIRST: &str = "01000200020003\n00\n00\n01\n";
+const SAVE: &str = "01010300030004\n00\n01\n02\n00\n";
+const KEEP: &str = "01020200020004\n00\n00\n00\n01\n";
+
+fn file(name: &str, bytes: &[u8]) -> File {
+    File {
+        name: name.to_string(),
+        bytes: bytes.to_vec(),
+    }
+}
+
+/// The ticket alone is explained by exactly these lines.
+fn says(ticket: impl AsRef<[u8]>, good: bool, expected: &[&str]) {
+    let report = explain(&file("a.ticket", ticket.as_ref()), None);
+    assert_eq!(report.text.lines().collect::<Vec<_>>(), expected);
+    assert_eq!(report.good, good);
+}
+
+fn accepted(ticket: impl AsRef<[u8]>, expected: &[&str]) {
+    says(ticket, true, &[&["a.ticket: accepted"], expected].concat());
+}
+
+fn refused(ticket: impl AsRef<[u8]>, expected: &[&str]) {
+    says(ticket, false, expected);
+}
+
+// ---- Accepted tickets ----
+
+/// What each mode asks for.
+#[test]
+fn accepted_tickets() {
+    accepted(
+        FIRST,
+        &[
+            "  It asks for a read plan of 3 frames on 2 cards, with a pool of 2 buffers.",
+            "  Frames on card 0: 2, card 1: 1.",
+            "  The plan has 2 cycles.",
+        ],
+    );
+    accepted(
+        SAVE,
+        &[
+            "  It asks for a save plan of 4 frames on 3 cards, with a pool of 3 buffers.",
+            "  Frames on card 0: 2, cards 1 to 2: 1 each.",
+            "  The plan has 2 cycles.",
+        ],
+    );
+    accepted(
+        KEEP,
+        &[
+            "  It asks for a save and keep plan of 4 frames on 2 cards, with a pool of 2 buffers.",
+            "  Frames on card 0: 3, card 1: 1.",
+            "  The plan has 2 cycles. 2 frames stay in the pool, with cycle 0.",
+        ],
+    );
+}
+
+/// The smallest numbers, and cards without frames.
+#[test]
+fn few_frames() {
+    accepted(
+        "01000100010000\n",
+        &[
+            "  It asks for a read plan of 0 frames on 1 card, with a pool of 1 buffer.",
+            "  The plan has 0 cycles.",
+        ],
+    );
+    accepted(
+        "01022004000001\n1F\n",
+        &[
+            "  It asks for a save and keep plan of 1 frame on 32 cards, with a pool of 1024 buffers.",
+            "  Frames on card 31: 1.",
+            "  No frames on the other 31 cards.",
+            "  The plan has 0 cycles. 1 frame stays in the pool, with cycle 0.",
+        ],
+    );
+    accepted(
+        "01000200010001\n00\n",
+        &[
+            "  It asks for a read plan of 1 frame on 2 cards, with a pool of 1 buffer.",
+            "  Frames on card 0: 1.",
+            "  No frames on the other card.",
+            "  The plan has 1 cycle.",
+        ],
+    );
+}
+
+/// 32 cards in few lines: neighbours with the same count are said together, and long lists are broken. The pool is so
+/// large that the plan has as many cycles as the fullest card has frames.
+#[test]
+fn many_cards() {
+    let ticket = |list: &[usize]| {
+        let mut text = format!("0100200400{:04X}\n", list.len());
+        list.iter().for_each(|card| text += &format!("{card:02X}\n"));
+        text
+    };
+    let round_robin: Vec<usize> = (0..4096).map(|position| position % 32).collect();
+    accepted(
+        ticket(&round_robin),
+        &[
+            "  It asks for a read plan of 4096 frames on 32 cards, with a pool of 1024 buffers.",
+            "  Frames on cards 0 to 31: 128 each.",
+            "  The plan has 128 cycles.",
+        ],
+    );
+    let card_c_has_c: Vec<usize> = (0..32).flat_map(|card| vec![card; card]).collect();
+    accepted(
+        ticket(&card_c_has_c),
+        &[
+            "  It asks for a read plan of 496 frames on 32 cards, with a pool of 1024 buffers.",
+            "  Frames on card 1: 1, card 2: 2, card 3: 3, card 4: 4, card 5: 5, card 6: 6, card 7: 7, card 8: 8,",
+            "    card 9: 9, card 10: 10, card 11: 11, card 12: 12, card 13: 13, card 14: 14, card 15: 15,",
+            "    card 16: 16, card 17: 17, card 18: 18, card 19: 19, card 20: 20, card 21: 21, card 22: 22,",
+            "    card 23: 23, card 24: 24, card 25: 25, card 26: 26, card 27: 27, card 28: 28, card 29: 29,",
+            "    card 30: 30, card 31: 31.",
+            "  No frames on the other card.",
+            "  The plan has 31 cycles.",
+        ],
+    );
+}
+
+// ---- Refused tickets ----
+
+const HEADER_IS_WRONG: [&str; 2] = [
+    "a.ticket: refused by 1 (FF01)",
+    "  The first 15 bytes are not 14 digits and an end byte.",
+];
+
+fn refused_by_1(ticket: impl AsRef<[u8]>, expected: &[&str]) {
+    refused(ticket, &[&HEADER_IS_WRONG[..], expected].concat());
+}
+
+#[test]
+fn refusal_1() {
+    refused_by_1(
+        "0100020002000G\n",
+        &[
+            "  Place:    line 1, byte 14; offset 13 from the start of the file",
+            "  Found:    'G'",
+            "  Expected: a digit, 0 to 9 or A to F",
+        ],
+    );
+    refused_by_1(
+        "0100020002 0003\n",
+        &[
+            "  Place:    line 1, byte 11; offset 10 from the start of the file",
+            "  Found:    space 20",
+            "  Expected: a digit, 0 to 9 or A to F",
+        ],
+    );
+    refused_by_1(
+        b"0100\x800002000\n",
+        &[
+            "  Place:    line 1, byte 5; offset 4 from the start of the file",
+            "  Found:    byte 80",
+            "  Expected: a digit, 0 to 9 or A to F",
+        ],
+    );
+}
+
+/// The commonest causes of 1: CR LF, a byte order mark, lower-case digits.
+#[test]
+fn causes_of_1() {
+    refused_by_1(
+        FIRST.replace('\n', "\r\n"),
+        &[
+            "  Place:    line 1, byte 15; offset 14 from the start of the file",
+            "  Found:    carriage return 0D",
+            "  Expected: the end byte 0A",
+            "  Hint:     The line ends in CR LF (0D 0A). Each line must end in the end byte 0A alone.",
+        ],
+    );
+    refused_by_1(
+        [b"\xEF\xBB\xBF", FIRST.as_bytes()].concat(),
+        &[
+            "  Place:    line 1, byte 1; offset 0 from the start of the file",
+            "  Found:    byte order mark EF BB BF",
+            "  Expected: a digit, 0 to 9 or A to F",
+            "  Hint:     The file begins with a byte order mark EF BB BF. Save it as plain ASCII text, without it.",
+        ],
+    );
+    refused_by_1(
+        "0100020002000a\n",
+        &[
+            "  Place:    line 1, byte 14; offset 13 from the start of the file",
+            "  Found:    'a'",
+            "  Expected: a digit, 0 to 9 or A to F",
+            "  Hint:     Digits are upper case: A, not a.",
+        ],
+    );
+}
+
+/// A header that is too short or too long, a header alone without its end byte, and no text at all.
+#[test]
+fn headers_of_other_lengths() {
+    refused_by_1(
+        "",
+        &[
+            "  Place:    line 1, byte 1; offset 0 from the start of the file",
+            "  Found:    the text ends here",
+            "  Expected: a digit, 0 to 9 or A to F",
+            "  Hint:     The file is empty.",
+        ],
+    );
+    refused_by_1(
+        "01000200020003",
+        &[
+            "  Place:    line 1, byte 15; offset 14 from the start of the file",
+            "  Found:    the text ends here",
+            "  Expected: the end byte 0A",
+            "  Hint:     The last line has no end byte. Some editors leave it out.",
+        ],
+    );
+    refused_by_1(
+        "010002000203\n",
+        &[
+            "  Place:    line 1, byte 13; offset 12 from the start of the file",
+            "  Found:    the end byte 0A",
+            "  Expected: a digit, 0 to 9 or A to F",
+            "  Hint:     The line is too short. It has only 12 digits.",
+        ],
+    );
+    refused_by_1(
+        "010002000200003\n",
+        &[
+            "  Place:    line 1, byte 15; offset 14 from the start of the file",
+            "  Found:    '3'",
+            "  Expected: the end byte 0A",
+            "  Hint:     The line is too long. It must have 14 digits.",
+        ],
+    );
+}
+
+#[test]
+fn refusals_2_and_3() {
+    refused(
+        "02030000000000\n",
+        &[
+            "a.ticket: refused by 2 (FF02)",
+            "  The edition is not 01.",
+            "  Place:    line 1, bytes 1 to 2; offsets 0 to 1 from the start of the file",
+            "  Found:    02 hex, which is 2",
+            "  Expected: the edition: 01 hex, which is 1",
+            "  Hint:     Only edition 01 is known.",
+        ],
+    );
+    refused(
+        "01030200020000\n",
+        &[
+            "a.ticket: refused by 3 (FF03)",
+            "  The mode is not 0 to 2.",
+            "  Place:    line 1, bytes 3 to 4; offsets 2 to 3 from the start of the file",
+            "  Found:    03 hex, which is 3",
+            "  Expected: the mode: 00 to 02 hex, which is 0 to 2",
+            "  Hint:     The modes are 00 read, 01 save, 02 save and keep.",
+        ],
+    );
+}
+
+/// The header's numbers out of range; and where their digits would be in range as a decimal number, a hint.
+#[test]
+fn refusals_4_to_6() {
+    refused(
+        "01003200020000\n",
+        &[
+            "a.ticket: refused by 4 (FF04)",
+            "  The number of cards is not 1 to 32.",
+            "  Place:    line 1, bytes 5 to 6; offsets 4 to 5 from the start of the file",
+            "  Found:    32 hex, which is 50",
+            "  Expected: the number of cards: 01 to 20 hex, which is 1 to 32",
+            "  Hint:     Numbers are hexadecimal. If 32 was meant as a decimal number, write 20.",
+        ],
+    );
+    refused(
+        "01000200000000\n",
+        &[
+            "a.ticket: refused by 5 (FF05)",
+            "  The pool is not 1 to 1024.",
+            "  Place:    line 1, bytes 7 to 10; offsets 6 to 9 from the start of the file",
+            "  Found:    0000 hex, which is 0",
+            "  Expected: the pool: 0001 to 0400 hex, which is 1 to 1024",
+        ],
+    );
+    refused(
+        "01000200021001\n",
+        &[
+            "a.ticket: refused by 6 (FF06)",
+            "  The number of frames is not 0 to 4096.",
+            "  Place:    line 1, bytes 11 to 14; offsets 10 to 13 from the start of the file",
+            "  Found:    1001 hex, which is 4097",
+            "  Expected: the number of frames: 0000 to 1000 hex, which is 0 to 4096",
+            "  Hint:     Numbers are hexadecimal. If 1001 was meant as a decimal number, write 03E9.",
+        ],
+    );
+}
+
+const LINE_IS_WRONG: [&str; 2] = [
+    "a.ticket: refused by 7 (FF07)",
+    "  A frame line is missing, or it is not 2 digits and an end byte.",
+];
+
+fn refused_by_7(ticket: &str, expected: &[&str]) {
+    refused(ticket, &[&LINE_IS_WRONG[..], expected].concat());
+}
+
+/// A malformed frame line: which byte of it, and what is wrong with the line.
+#[test]
+fn refusal_7() {
+    refused_by_7(
+        "01000200020003\n00\n0G\n02\n",
+        &[
+            "  Place:    line 3, byte 2; offset 19 from the start of the file",
+            "  Found:    'G'",
+            "  Expected: a digit, 0 to 9 or A to F",
+        ],
+    );
+    refused_by_7(
+        "01000200020003\n000\n0\n01\n",
+        &[
+            "  Place:    line 2, byte 3; offset 17 from the start of the file",
+            "  Found:    '0'",
+            "  Expected: the end byte 0A",
+            "  Hint:     The line is too long. It must have 2 digits.",
+        ],
+    );
+    refused_by_7(
+        "01000200020003\n00\n0\n01\n",
+        &[
+            "  Place:    line 3, byte 2; offset 19 from the start of the file",
+            "  Found:    the end byte 0A",
+            "  Expected: a digit, 0 to 9 or A to F",
+            "  Hint:     The line is too short. It has only 1 digit.",
+        ],
+    );
+    refused_by_7(
+        "01000200020003\n00\n\n01\n",
+        &[
+            "  Place:    line 3, byte 1; offset 18 from the start of the file",
+            "  Found:    the end byte 0A",
+            "  Expected: a digit, 0 to 9 or A to F",
+            "  Hint:     The line is blank.",
+        ],
+    );
+    refused_by_7(
+        "01000200020001\n00\r",
+        &[
+            "  Place:    line 2, byte 3; offset 17 from the start of the file",
+            "  Found:    carriage return 0D",
+            "  Expected: the end byte 0A",
+            "  Hint:     The line ends in a carriage return (0D). Each line must end in the end byte 0A alone.",
+        ],
+    );
+}
+
+/// The text ends too early: the last end byte is missing, a line is missing, or the text breaks off within a line.
+#[test]
+fn early_ends() {
+    refused_by_7(
+        "01000200020003\n00\n00\n01",
+        &[
+            "  Place:    line 4, byte 3; offset 23 from the start of the file",
+            "  Found:    the text ends here",
+            "  Expected: the end byte 0A",
+            "  Hint:     The last line has no end byte. Some editors leave it out.",
+        ],
+    );
+    refused_by_7(
+        "01000200020003\n00\n00\n",
+        &[
+            "  Place:    line 4, byte 1; offset 21 from the start of the file",
+            "  Found:    the text ends here",
+            "  Expected: a digit, 0 to 9 or A to F",
+            "  Hint:     The text ends early. It has 2 whole frame lines; the header says 3 frames (0003 hex).",
+        ],
+    );
+    refused_by_7(
+        "01000200020003\n00\n01",
+        &[
+            "  Place:    line 3, byte 3; offset 20 from the start of the file",
+            "  Found:    the text ends here",
+            "  Expected: the end byte 0A",
+            "  Hint:     The last line has no end byte. Some editors leave it out.",
+            "  Hint:     The text ends early. It has 1 whole frame line; the header says 3 frames (0003 hex).",
+        ],
+    );
+    refused_by_7(
+        &format!("01000200020010\n{}", "00\n".repeat(10)),
+        &[
+            "  Place:    line 12, byte 1; offset 45 from the start of the file",
+            "  Found:    the text ends here",
+            "  Expected: a digit, 0 to 9 or A to F",
+            "  Hint:     The text ends early. It has 10 whole frame lines; the header says 16 frames (0010 hex).",
+            "  Hint:     Numbers are hexadecimal. If 0010 was meant as a decimal number, write 000A.",
+        ],
+    );
+}
+
+#[test]
+fn refusal_8() {
+    refused(
+        "01000200020003\n00\n02\n0G\n",
+        &[
+            "a.ticket: refused by 8 (FF08)",
+            "  A card number is not below the number of cards.",
+            "  Place:    line 3, bytes 1 to 2; offsets 18 to 19 from the start of the file",
+            "  Found:    02 hex, which is 2",
+            "  Expected: a card: 00 to 01 hex, which is 0 to 1; the header says 2 cards",
+            "  Hint:     Cards are counted from 0, so the highest card is 1.",
+        ],
+    );
+    refused(
+        "01002000020001\n31\n",
+        &[
+            "a.ticket: refused by 8 (FF08)",
+            "  A card number is not below the number of cards.",
+            "  Place:    line 2, bytes 1 to 2; offsets 15 to 16 from the start of the file",
+            "  Found:    31 hex, which is 49",
+            "  Expected: a card: 00 to 1F hex, which is 0 to 31; the header says 32 cards",
+            "  Hint:     Numbers are hexadecimal. If 31 was meant as a decimal number, write 1F.",
+        ],
+    );
+}
+
+/// Bytes after the last line: a blank line, or more lines than the header says.
+#[test]
+fn refusal_9() {
+    let head = ["a.ticket: refused by 9 (FF09)", "  Bytes follow the last line."];
+    let place = "  Place:    line 5, byte 1; offset 24 from the start of the file";
+    let expected = "  Expected: the end of the text";
+    for (after, found, hint) in [
+        ("\n", "the end byte 0A", "The text has 1 blank line at its end."),
+        (
+            "\r\n\r\n",
+            "carriage return 0D",
+            "The text has 2 blank lines at its end.",
+        ),
+        (
+            "00\n01",
+            "'0'",
+            "The text has 2 lines too many; the header says 3 frames (0003 hex).",
+        ),
+        (
+            "x",
+            "'x'",
+            "The text has 1 line too many; the header says 3 frames (0003 hex).",
+        ),
+    ] {
+        let found = format!("  Found:    {found}");
+        let hint = format!("  Hint:     {hint}");
+        refused(
+            format!("{FIRST}{after}"),
+            &[&head[..], &[place, &found, expected, &hint]].concat(),
+        );
+    }
+}
