@@ -2,7 +2,7 @@
 #   make plan       prints the plan of an example ticket, or of TICKET=file
 #   make test       passes everything: the gate (proofs, wrong versions, test programs), the examples, the library from Rust
 # For support:
-#   make explain    says in words what TICKET=file asks for, or where its refusal stands, and checks the plan beside it
+#   make explain    says in words what TICKET=file asks for, or where its refusal stands, and checks the plan beside it or PLAN=file
 # For those who link the library:
 #   make firmware   builds target/lib/libdockplan.a and runs two small callers in C, the first one on TICKET
 #   make install    copies header, archive and a pkg-config file to PREFIX
@@ -15,7 +15,7 @@ LIBRARY = target/lib/libdockplan.a
 CARGO = cd host && CARGO_TARGET_DIR=../target/host cargo
 CC_WARNED = $(CC) -std=c99 -O2 -Wall -Wextra -Wpedantic -Iinclude
 
-.PHONY: plan test examples program firmware install host bench
+.PHONY: plan test examples program explain firmware install host bench
 
 plan: program
 	@target/bin/dockplan < $(TICKET)
@@ -64,3 +64,8 @@ host: $(LIBRARY)
 
 bench: $(LIBRARY)
 	@$(CARGO) run --release --offline --quiet --bin bench
+
+# without PLAN, the file NAME.plan beside NAME.ticket, if there is one; where the command ends with 1, make ends with 2
+explain: $(LIBRARY)
+	@$(CARGO) build --release --offline --quiet --bin explain
+	@target/host/release/explain $(TICKET) $(PLAN)
