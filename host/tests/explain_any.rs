@@ -56,7 +56,7 @@ fn try_place(ticket: &[u8], number: u8, place: &Place) {
     }
 }
 
-/// "Lines counted from 1, line 1 is the header; byte counted from 1 within the line."
+/// "Lines and bytes are counted from 1, and line 1 is the header; offsets are counted from 0."
 fn line_and_byte_are_the_offset(ticket: &[u8], place: &Place, input: &str) {
     let before = &ticket[..place.offset];
     let ends = before.iter().filter(|&&byte| byte == b'\n').count();
