@@ -1,6 +1,7 @@
 //! Measures the library against plain C and against the Rust reference, by time and by instructions, and prints one table.
 //! First it compares their answers, and stops with a message where they differ.
 
+mod alone;
 mod compare;
 mod implementations;
 mod inputs;
@@ -51,7 +52,7 @@ fn measure_row(row: &mut Row, counts: Option<&Vec<u64>>) -> Measures {
     }
 }
 
-fn print_table(rows: &mut [Row]) {
+fn print_table(rows: &mut [Row]) -> Tally {
     let counts = instructions::count(rows.len(), counted().len());
     let mut tally = Tally::default();
     table::print_head(C, counts.is_some());
@@ -59,7 +60,7 @@ fn print_table(rows: &mut [Row]) {
         let measures = measure_row(row, counts.as_ref().map(|counts| &counts[number]));
         table::print_row(row, &measures, &mut tally);
     }
-    table::print_tally(&tally);
+    tally
 }
 
 fn main() -> ExitCode {
@@ -73,6 +74,8 @@ fn main() -> ExitCode {
         eprintln!("{message}");
         return ExitCode::FAILURE;
     }
-    print_table(&mut rows);
+    let tally = print_table(&mut rows);
+    alone::print_table(&lists[0]);
+    table::print_tally(&tally);
     ExitCode::SUCCESS
 }
