@@ -90,6 +90,6 @@ pub fn print_table(list: &List) {
     println!("The library alone, nanoseconds a frame as above; no target:");
     for mut row in rows(list) {
         let least = measure(1, |_| (row.make)()).least(0);
-        println!("{:<9}{:<55}{:>10.2}", row.call, row.given, least / row.frames as f64);
+        println!("{:<9}{:<51}{:>9.2}", row.call, row.given, least / row.frames as f64);
     }
 }

@@ -161,15 +161,15 @@ pub fn foreign_plans() -> [Foreign; 3] {
     let spread = valid.iter().map(|cycle| cycle * 15).collect();
     [
         Foreign {
-            name: "falling cycles",
+            name: "falling",
             cycles: valid,
         },
         Foreign {
-            name: "falling cycles, overfull late",
+            name: "falling, overfull late",
             cycles: overfull,
         },
         Foreign {
-            name: "falling cycles up to 61,440",
+            name: "falling, up to 61,440",
             cycles: spread,
         },
     ]

@@ -7,8 +7,9 @@ use std::time::Instant;
 pub const TURNS: usize = 200;
 const NANOSECONDS_A_RUN: f64 = 250_000.0;
 
-/// The machine is quiet where the middle half of the ratios lie within this part of their median.
-pub const QUIET: f64 = 0.10;
+/// The machine is quiet where the middle half of the ratios spread over at most this part of their median. The median of
+/// 200 is then sure to about 0.02.
+pub const QUIET: f64 = 0.25;
 
 /// Nanoseconds a call in one run.
 fn run(calls: usize, call: &mut dyn FnMut()) -> f64 {

@@ -14,12 +14,12 @@ pub struct Measures {
     pub ratios: Vec<Ratio>,
 }
 
-/// Whether a measure is within its target. It is not judged where there is none.
+/// Whether a measure is within its target; unknown where it was not taken, or not on a quiet machine.
 #[derive(Clone, Copy, PartialEq)]
 enum Judged {
     Met,
     Missed,
-    NotJudged,
+    Unknown,
 }
 
 impl Measures {
@@ -37,14 +37,14 @@ impl Measures {
 
     fn judge_time(&self, target: f64) -> Judged {
         match self.time() {
-            Ratio { quiet: false, .. } => Judged::NotJudged,
+            Ratio { quiet: false, .. } => Judged::Unknown,
             Ratio { median, .. } => judge(median, target),
         }
     }
 
     fn judge_instructions(&self, target: f64) -> Judged {
         self.instructions()
-            .map_or(Judged::NotJudged, |ratio| judge(ratio, target))
+            .map_or(Judged::Unknown, |ratio| judge(ratio, target))
     }
 }
 
@@ -75,7 +75,7 @@ impl Count {
         match judged {
             Judged::Met => self.met += 1,
             Judged::Missed => self.missed += 1,
-            Judged::NotJudged => self.not_judged += 1,
+            Judged::Unknown => self.not_judged += 1,
         }
     }
 
@@ -105,8 +105,8 @@ fn machine() -> String {
 
 /// A line of the table from its cells.
 fn print_cells(call: &str, given: &str, numbers: impl Iterator<Item = String>, target: &str) {
-    let numbers: String = numbers.map(|number| format!("{number:>10}")).collect();
-    println!("{call:<9}{given:<55}{numbers}  {target}");
+    let numbers: String = numbers.map(|number| format!("{number:>9}")).collect();
+    println!("{call:<9}{given:<51}{numbers}  {target}");
 }
 
 pub fn print_head(c: &[Implementation], counted: bool) {
@@ -122,7 +122,7 @@ pub fn print_head(c: &[Implementation], counted: bool) {
     println!("           dear to check, its cycles falling in blocks of 1,000 frames or, where it is overfull late, in a last one of 1,096");
     println!("ns         nanoseconds a frame: the least of {TURNS} runs of 0.25 ms, all taken in turns; buffers are not cleared between calls");
     println!(
-        "ins        instructions a frame, {}",
+        "in         instructions a frame, {}",
         if counted {
             "counted by valgrind in one call"
         } else {
@@ -139,8 +139,8 @@ pub fn print_head(c: &[Implementation], counted: bool) {
     };
     let columns = measured("ns")
         .chain(["Rust ns".into()])
-        .chain(measured("ins"))
-        .chain(["time".into(), "ins".into()]);
+        .chain(measured("in"))
+        .chain(["time".into(), "in".into()]);
     print_cells("call", "given", columns, "target");
 }
 
