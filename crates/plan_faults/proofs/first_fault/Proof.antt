@@ -5,7 +5,6 @@ use Prim.Native.Nat.{_-_, _<_}
 use mathlib.Core.Path.{refl, sym, _∙_}
 use mathlib.Core.Logic.{⊎-elim}
 use native.Mathlib.Omega.{arith}
-use denote.Ref.{now}
 use Rattle.plan_faults.proofs.Judged as judged
 use Rattle.plan_faults.proofs.first_fault.Statement.{statement}
 use Rattle.plan_faults.proofs.first_fault.Tie as tie
