@@ -7,8 +7,8 @@ use std::time::Instant;
 pub const TURNS: usize = 200;
 const NANOSECONDS_A_RUN: f64 = 250_000.0;
 
-/// The machine is quiet where the middle half of the ratios spread over at most this part of their median. The median of
-/// 200 is then sure to about 0.02.
+/// The machine is quiet where the middle half of the ratios spread over at most this part of their median. Within a run the
+/// median of 200 is then good to about 0.02; another run of the program may still find another one.
 pub const QUIET: f64 = 0.25;
 
 /// Nanoseconds a call in one run.
