@@ -4,6 +4,7 @@ use crate::compare::own_plan;
 use crate::implementations::LIBRARY;
 use crate::inputs::{self, List};
 use crate::measure::measure;
+use crate::rows::{FOREIGN_POOL, READ};
 use dockplan::raw::{self, SaverAnswer};
 use std::hint::black_box;
 
@@ -37,10 +38,10 @@ fn save(pool: u16, cards: &[usize], closing: bool) {
 }
 
 fn rows(list: &List) -> Vec<Alone> {
-    let ticket = list.ticket(0);
+    let ticket = list.ticket(READ);
     let own = own_plan(&LIBRARY, &ticket);
     let [_, _, spread] = inputs::foreign_plans();
-    let for_spread = list.ticket_with_pool(0, 1000);
+    let for_spread = list.ticket_with_pool(READ, FOREIGN_POOL);
     let frames = list.cards.len();
     let of_ticket = ticket.clone();
     let row = |call, given: &str, frames, make: Box<dyn FnMut()>| Alone {

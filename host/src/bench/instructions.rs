@@ -67,7 +67,7 @@ fn count_of(counts: &Path, call: usize) -> Option<u64> {
     totals.trim().parse().ok()
 }
 
-/// For each row, the instructions of each implementation's call; none where valgrind is not there.
+/// For each row, the instructions of each implementation's call; none where valgrind did not run.
 pub fn count(rows: usize, implementations: usize) -> Option<Vec<Vec<u64>>> {
     let folder = Folder::new()?;
     let counts = folder.0.join("call");

@@ -5,13 +5,13 @@ use crate::implementations::{Implementation, LIBRARY};
 use crate::inputs::{self, List, MAX_FRAMES, MAX_PRINTED_BYTES};
 use std::hint::black_box;
 
-const READ: usize = 0;
+pub const READ: usize = 0;
 const SAVE: usize = 1;
 const SAVE_AND_KEEP: usize = 2;
 pub const MODES: [usize; 3] = [READ, SAVE, SAVE_AND_KEEP];
 
 /// The pool that the foreign plans are made for.
-const FOREIGN_POOL: usize = 1000;
+pub const FOREIGN_POOL: usize = 1000;
 
 /// The library's part of the faster C's time, and of the fewer instructions, that a row may reach.
 const READER_AND_PLANNER: f64 = 1.05;

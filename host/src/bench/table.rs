@@ -126,7 +126,7 @@ pub fn print_head(c: &[Implementation], counted: bool) {
         if counted {
             "counted by valgrind in one call"
         } else {
-            "not counted: valgrind is not there"
+            "not counted: valgrind did not run"
         }
     );
     println!("lib/C      the library's over the better C's. Time is the median of the turns, and ~ says that the machine was not quiet: the");
