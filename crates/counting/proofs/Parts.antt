@@ -4,7 +4,6 @@ use Prim.Native.Nat.{ℕ, zero, suc, _+_, _-_, _<_}
 use mathlib.Core.Path.{_≡_, refl, sym, ap, _∙_}
 use mathlib.Core.List.{List, [], _∷_, _++_, append-assoc, map}
 use native.Mathlib.Omega.{arith}
-use native.Mathlib.Numerals.{add-one}
 use native.Mathlib.Nat.{sub-zero, zero-sub, suc-sub-suc, zero-add, add-zero, suc-add}
 use native.Mathlib.Decide.{decLt}
 use lib.Dec.{ltb}
@@ -39,9 +38,6 @@ drop-take (suc k) n (x ∷ s) = rw (suc-add k n) (drop-take k n s)
 pub parts-meet : (l : List ℕ) (at a b : ℕ) → take a (drop at l) ++ take b (drop (at + a) l) ≡ take (a + b) (drop at l)
 parts-meet l at a b = rw (take-add, drop-drop)
 
-pub two-bytes : (l : List ℕ) (k : ℕ) → k + 1 < length l → take 2 (drop k l) ≡ getD l k 0 ∷ getD l (k + 1) 0 ∷ []
-two-bytes l k h = rw (drop-cons l k 0 (omega (arith, h)), drop-cons l (suc k) 0 (omega (arith, h)), add-one)
-
 -- a run of stores keeps the length, and a run from where it ended makes one run of both
 pub sets-length : (l x : List ℕ) (at : ℕ) (values : List ℕ) → x ≡ sets l at values → length x ≡ length l
 sets-length l x at values e = ap length e ∙ length-sets l at values
@@ -58,6 +54,17 @@ written-set l table x h =
     let one : length (l ++ (x ∷ [])) ≡ suc (length l) = omega (arith, length-append l (x ∷ [])) in
     rw (one, drop-cons table (length l) 0 h, set-at l (getD table (length l) 0) (drop (suc (length l)) table) x (length l) refl)
     (sym (append-assoc l (x ∷ []) (drop (suc (length l)) table)))
+
+-- a part taken, before or after a function is mapped over the list
+pub map-take : (f : ℕ → ℕ) (n : ℕ) (l : List ℕ) → take n (map f l) ≡ map f (take n l)
+map-take f zero l = refl
+map-take f (suc n) [] = refl
+map-take f (suc n) (x ∷ l) = ap (λ (r : List ℕ). f x ∷ r) (map-take f n l)
+
+pub map-drop : (f : ℕ → ℕ) (n : ℕ) (l : List ℕ) → drop n (map f l) ≡ map f (drop n l)
+map-drop f zero l = refl
+map-drop f (suc n) [] = refl
+map-drop f (suc n) (x ∷ l) = map-drop f n l
 
 -- a place set, before or after a function is mapped over the list
 pub map-set : {A B : Type 0} (f : A → B) (l : List A) (k : ℕ) (x : A) → set (map f l) k (f x) ≡ map f (set l k x)

@@ -15,7 +15,8 @@ use Rattle.ticket.specs.Print.{lineTexts, ticketText}
 use Rattle.planner.specs.Plan.{planOf, bufferAfter}
 use Rattle.checker.specs.Check.{checkOf}
 use Rattle.plan_run.specs.Run.{ranOf}
-use Rattle.print_lines.specs.Put.{refusalText, bytesIn}
+use Rattle.print_lines.specs.Lines.{refusalText}
+use Rattle.print_lines.specs.Put.{bytesIn}
 use Rattle.printing.specs.Printed.{frameLines, planText, textOf}
 use Rattle.print_lines.specs.Put as put
 use Rattle.saver.specs.Calls.{newOf, saveOf, closeOf}

@@ -9,9 +9,9 @@ use borrow.Author.Tests.{lt-ltb, le-ltb}
 use Rattle.header.specs.declared.Header.{Header}
 use Rattle.ticket.specs.Ticket.{accepted, refused}
 use Rattle.ticket.specs.Grounds.{Fits}
-use Rattle.planner.specs.Plan.{planFor, planOf, bufferAfter, Answered}
-use Rattle.greedy_pass.specs.Pass.{Asked}
-use Rattle.planner.specs.Filled.{Filled}
+use Rattle.mode_plans.specs.Filled.{Filled}
+use Rattle.mode_plans.specs.Plans.{planFor}
+use Rattle.planner.specs.Plan.{planOf, bufferAfter, Answered}
 use Rattle.planner.specs.declared.Answer.the-variants.{Planned, Refused}
 
 -- a list that is read, and a buffer
@@ -23,15 +23,6 @@ module _ (h : Header) (cards before : List ℕ) (f : Fits h cards) where
       record { answer = rw (lt-ltb (length before) (length cards) g); buffer = rw (lt-ltb (length before) (length cards) g) }
 
   module _ (l : h .frames ≤ length before) where
-    pub asked : Asked (h .pool) cards before
-    asked =
-        record {
-          pool = f .pool .0;
-          few = omega (arith, f .frames, f .few);
-          each-card = λ i k. omega (arith, f .each-card i k, f .card-range .1);
-          room = omega (arith, f .frames);
-        }
-
     pub planned :
         (after : List ℕ) (T : ℕ) → Filled (planFor (h .mode) (h .pool) cards) before after T
         → Answered (accepted h cards) before after (Planned (record { 0 = T }))

@@ -17,10 +17,11 @@ use Rattle.header.specs.declared.Header.{Header}
 use Rattle.ticket.specs.Ticket.{accepted, parse}
 use Rattle.ticket.proofs.Main.{accepted-fits}
 use Rattle.planner.specs.Numbers.{numbersOf}
-use Rattle.planner.specs.Plan.{planFor, planOf, bufferAfter, Answered}
+use Rattle.mode_plans.specs.Plans.{planFor}
+use Rattle.mode_plans.proofs.Plans.{plan-read, plan-save}
+use Rattle.planner.specs.Plan.{planOf, bufferAfter, Answered}
 use Rattle.planner.specs.Demand3.{Demand3}
 use Rattle.planner.specs.declared.Answer.{Answer}
-use Rattle.planner.proofs.Plans.{plan-read, plan-save}
 
 -- an accepted ticket, and a buffer with room
 module _ (h : Header) (cards before after : List ℕ) (r : Answer) (a : Answered (accepted h cards) before after r) (room : length cards ≤ length after) where
@@ -43,7 +44,7 @@ module _ (h : Header) (cards before after : List ℕ) (r : Answer) (a : Answered
   holds-plan e = rw (a .buffer, has-room) (take-at (plan .cycles) (drop (length (plan .cycles)) before) (length cards) e)
 
   -- what is true of the plan is true of the buffer's front and of the T answered
-  pub so-of-call :
+  so-of-call :
       (P : List ℕ → ℕ → Type 0) → length (plan .cycles) ≡ length cards → P (plan .cycles) (plan .T)
       → (numbersOf r .refusal ≡ 0) × P (take (length cards) after) (numbersOf r .cycles .0)
   so-of-call P e p = (answers-T .0, rw (answers-T .1, holds-plan e) p)

@@ -2,4 +2,3 @@ pub mod Main
 pub mod Cases
 pub mod Demand
 pub mod Answers
-pub mod Plans

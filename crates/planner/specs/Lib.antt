@@ -1,5 +1,4 @@
 pub mod Plan
 pub mod Numbers
 pub mod Demand3
-pub mod Filled
 pub mod Cases

@@ -5,18 +5,13 @@ use Prim.Native.Nat.{ℕ}
 use mathlib.Core.Path.{_≡_}
 use mathlib.Core.Bool.{cond}
 use mathlib.Core.List.{List}
-use lib.Dec.{eqb, ltb}
+use lib.Dec.{ltb}
 use lib.ListN.{length}
 use Rattle.counting.specs.Count.{written}
-use Rattle.schedule.specs.Greedy.{Plan, saveAndKeep, greedyWriting, lazyPrefetching}
-use Rattle.header.specs.Limits.{modeRead, modeSave}
 use Rattle.ticket.specs.Ticket.{Parsed, accepted, refused}
+use Rattle.mode_plans.specs.Plans.{planFor}
 use Rattle.planner.specs.declared.Answer.{Answer}
 use Rattle.planner.specs.declared.Answer.the-variants.{Planned, Refused}
-
--- "Modes: 00 read; 01 save; 02 save and keep."
-abbrev pub planFor : ℕ → ℕ → List ℕ → Plan
-planFor mode m cards = cond (eqb mode modeRead) (lazyPrefetching m cards) (cond (eqb mode modeSave) (greedyWriting m cards) (saveAndKeep m cards))
 
 -- "plan buffer has fewer than L places": 10, after the ticket's own
 unfoldable pub planOf : Parsed → ℕ → Answer

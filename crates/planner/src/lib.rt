@@ -6,9 +6,6 @@ ghost use Rattle.ticket.specs.Grounds.{Fits};
 ghost use Rattle.planner.specs.Plan.{planOf, bufferAfter, Answered};
 ghost use Rattle.planner.specs.Numbers.{numbersOf};
 ghost use Rattle.planner.specs.Demand3.{Demand3};
-
-mod modes;
-
 use counting::Cycle;
 use header::Header;
 use header::limits;
@@ -28,7 +25,7 @@ fn plan_list(h: Header, card: &[u8], out: &mut [u16]) -> Answer
     if out.len() < n {
         return Answer::Refused(10);
     }
-    Answer::Planned(modes::fill(h.mode, &card[..n], h.pool, out))
+    Answer::Planned(mode_plans::fill(h.mode, &card[..n], h.pool, out))
 }
 
 // Plans a ticket: fills the first places of the buffer with each frame's cycle and answers T; later places keep their content.

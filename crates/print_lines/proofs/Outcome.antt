@@ -12,7 +12,8 @@ use Rattle.counting.proofs.Parts.{sets-append, sets-length}
 use Rattle.text.specs.Text.{endByte}
 use Rattle.text.specs.Hex.{hex, endOfLine}
 use Rattle.text.proofs.Hex.{length-hex}
-use Rattle.print_lines.specs.Put.{refusalText, bytesIn, bufferAfter, Put}
+use Rattle.print_lines.specs.Lines.{refusalText}
+use Rattle.print_lines.specs.Put.{bytesIn, bufferAfter, Put}
 
 module _ (text before : List ℕ) where
   pub no-room : length before < length text → Put text before before 0

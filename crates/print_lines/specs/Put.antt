@@ -1,17 +1,12 @@
--- A text put into a lent buffer, whole or not at all; and the text of a refusal.
+-- A text put into a lent buffer, whole or not at all.
 -- Assumes nothing.
 use Prim.Native.Nat.{ℕ}
 use mathlib.Core.Path.{_≡_}
 use mathlib.Core.Bool.{cond}
-use mathlib.Core.List.{List, _++_}
+use mathlib.Core.List.{List}
 use lib.Dec.{leb}
 use lib.ListN.{length}
 use Rattle.counting.specs.Count.{written}
-use Rattle.text.specs.Hex.{hex, endOfLine}
-
--- "A refusal prints one line, FF and its number in 2 digits."
-unfoldable pub refusalText : ℕ → List ℕ
-refusalText number = hex 2 255 ++ (hex 2 number ++ endOfLine)
 
 -- How many bytes a call prints: all, or none where a buffer of so many places has no room for all.
 unfoldable pub bytesIn : List ℕ → ℕ → ℕ

@@ -1,11 +1,11 @@
 // The lines of a printed text, written into a lent buffer: that of a refusal, and that of a frame.
 ghost use mathlib.Core.Path.{_≡_};
-ghost use mathlib.Core.List.{[], _∷_, _++_};
-ghost use Prim.Native.Nat.{_+_, _≤_};
+ghost use Prim.Native.Nat.{_+_, _^_, _≤_, _<_};
 ghost use lib.ListN.{length};
 ghost use lib.Seq.{sets};
-ghost use Rattle.text.specs.Hex.{digitTexts, hex, endOfLine};
-ghost use Rattle.print_lines.specs.Put.{refusalText, Put};
+ghost use Rattle.text.specs.Hex.{digitTexts, hex};
+ghost use Rattle.print_lines.specs.Lines.{frameLine, refusalText};
+ghost use Rattle.print_lines.specs.Put.{Put};
 use counting::Cycle;
 use counting::Position;
 
@@ -23,22 +23,30 @@ pub fn refusal(number: u8, out: &mut [u8]) -> usize
     5
 }
 
-// A frame's line, at a place. The card's two digits are given as they stand in the ticket.
+// A position's 4 digits, at a place. 3 digits are enough for every position of a list, so the first is 0 and is not looked up.
+fn put_position(digit: &[u8; 16], out: &mut [u8], at: usize, position: Position)
+    requires { ⌜ (now digit ≡ digitTexts) × (at + 4 ≤ length (now out)) × (position .0 < 16 ^ 3) ⌝ }
+    ensures { λ r. ⌜ now (out .exit) ≡ sets (now (out .entry)) at (hex 4 (position .0)) ⌝ }
+{
+    out[at] = b'0';
+    out[at + 1] = text::write::digit_text(digit, (position.0 / 256) as u8);
+    text::write::put2(digit, out, at + 2, (position.0 % 256) as u8);
+}
+
+// A frame's line, at a place.
 pub fn frame_line(
     digit: &[u8; 16],
     out: &mut [u8],
     at: usize,
     position: Position,
-    high: u8,
-    low: u8,
+    card: u8,
     cycle: Cycle,
 )
-    requires { ⌜ (now digit ≡ digitTexts) × (at + 11 ≤ length (now out)) ⌝ }
-    ensures { λ r. ⌜ now (out .exit) ≡ sets (now (out .entry)) at (hex 4 (position .0) ++ ((high ∷ low ∷ []) ++ (hex 4 (cycle .0) ++ endOfLine))) ⌝ }
+    requires { ⌜ (now digit ≡ digitTexts) × (at + 11 ≤ length (now out)) × (position .0 < 16 ^ 3) ⌝ }
+    ensures { λ r. ⌜ now (out .exit) ≡ sets (now (out .entry)) at (frameLine (position .0) card (cycle .0)) ⌝ }
 {
-    text::write::put4(digit, out, at, position.0);
-    out[at + 4] = high;
-    out[at + 5] = low;
+    put_position(digit, out, at, position);
+    text::write::put2(digit, out, at + 4, card);
     text::write::put4(digit, out, at + 6, cycle.0);
     out[at + 10] = text::END;
 }

@@ -9,7 +9,7 @@ use Rattle.header.specs.Heading.{headerOf, withinLimits, heading}
 use Rattle.frame_lines.specs.Lines.{cardAt, lineFault, linesFault, partFault}
 use Rattle.ticket.specs.Ticket.{parse}
 use Rattle.printing.specs.Printed.{frameLines, planText, textOf}
-use Rattle.print_lines.specs.Put.{refusalText}
+use Rattle.print_lines.specs.Lines.{refusalText}
 use Rattle.printing.specs.Cases.{Case, cases}
 
 pub texts-hold : map (λ (c : Case). c .text) cases ≡ map (λ (c : Case). c .expected) cases

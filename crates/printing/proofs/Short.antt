@@ -9,7 +9,7 @@ use borrow.Author.Tests.{le-leb}
 use Rattle.counting.specs.Count.{written}
 use Rattle.ticket.specs.Ticket.{Parsed, accepted, refused, parse}
 use Rattle.ticket.proofs.Main as ticket
-use Rattle.planner.specs.Plan.{planFor}
+use Rattle.mode_plans.specs.Plans.{planFor}
 use Rattle.printing.specs.Printed.{textOf, printed}
 use Rattle.print_lines.specs.Put.{bytesIn, bufferAfter}
 use Rattle.print_lines.proofs.Outcome.{refusal-length}

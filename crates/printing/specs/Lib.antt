@@ -1,4 +1,3 @@
 pub mod Printed
 pub mod Sizes
-pub mod Made
 pub mod Cases

@@ -9,14 +9,9 @@ use Rattle.counting.specs.Frames.{cardOf}
 use Rattle.schedule.specs.Schedule.{cycleOf}
 use Rattle.schedule.specs.Greedy.{Plan}
 use Rattle.text.specs.Hex.{hex, endOfLine}
-use Rattle.frame_lines.specs.Lines.{lineDigits}
 use Rattle.ticket.specs.Ticket.{Parsed, accepted, refused, parse}
-use Rattle.planner.specs.Plan.{planFor}
-use Rattle.print_lines.specs.Put.{refusalText}
-
--- "for each frame position (4), card (2), cycle (4)"
-abbrev pub frameLine : ℕ → ℕ → ℕ → List ℕ
-frameLine position card cycle = hex 4 position ++ (hex lineDigits card ++ (hex 4 cycle ++ endOfLine))
+use Rattle.mode_plans.specs.Plans.{planFor}
+use Rattle.print_lines.specs.Lines.{frameLine, refusalText}
 
 -- the lines of the first n frames
 unfoldable pub frameLines : List ℕ → List ℕ → ℕ → List ℕ

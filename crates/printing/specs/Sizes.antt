@@ -3,7 +3,6 @@
 -- Assumes nothing.
 use Prim.Native.Nat.{ℕ, _+_, _*_}
 use Rattle.header.specs.Limits.{maxFrames}
-use Rattle.frame_lines.specs.Lines.{lineDigits}
 
 -- "looks at its first 65,536 bytes, which settle every ticket"
 abbrev pub inputBytes : ℕ
@@ -15,7 +14,7 @@ headBytes = 4 + 1
 
 -- "for each frame position (4), card (2), cycle (4)", and the end byte
 abbrev pub frameBytes : ℕ
-frameBytes = 4 + lineDigits + 4 + 1
+frameBytes = 4 + 2 + 4 + 1
 
 -- the longest text: the line of T, and a line for each of the most frames that a ticket can have
 abbrev pub longestText : ℕ

@@ -12,7 +12,8 @@ pub fn digit_texts() -> [u8; 16]
     *b"0123456789ABCDEF"
 }
 
-fn digit_text(digits: &[u8; 16], v: u8) -> u8
+// The digit of a value below 16.
+pub fn digit_text(digits: &[u8; 16], v: u8) -> u8
     requires { ⌜ (now digits ≡ digitTexts) × (v < 16) ⌝ }
     ensures { λ r. ⌜ r ≡ digitOf v ⌝ }
 {

@@ -1,6 +1,7 @@
 -- `planner::plan_list` meets its contract.
 -- Assumes nothing.
-use Rattle.planner.proofs.Answers.{too-small, asked, planned}
+use Rattle.mode_plans.proofs.Lists.{asked}
+use Rattle.planner.proofs.Answers.{too-small, planned}
 use borrow.Author.Needs.{needs}
 use Rattle.planner.proofs.plan_list.Statement.{statement}
 use Rattle.planner.proofs.plan_list.Tie as tie

@@ -4,29 +4,29 @@ use Prim.Native.Nat.{_≤_, _-_}
 use mathlib.Core.Path.{_≡_}
 use native.Mathlib.Omega.{arith}
 use lib.Seq.{sets}
-use Rattle.printing.proofs.Listed.{linesFrom, head-length, long, frames-is, frames-few, no-lines, next-line, put-all, text-long}
+use Rattle.printing.specs.Printed.{frameLines}
+use Rattle.printing.proofs.Listed.{head-length, plan-long, no-lines, next-line, put-all}
 use Rattle.print_lines.proofs.Outcome.{no-room}
 use borrow.Author.Needs.{needs}
 use Rattle.printing.proofs.lines.plan.Statement.{statement}
 use Rattle.printing.proofs.lines.plan.Tie as tie
 
 abbrev Inv-loop : tie.InvT-loop
-Inv-loop ticket plan out₀ n digit i₀ out i = (i ≤ n) × (out ≡ sets out₀ 5 (linesFrom ticket plan i))
+Inv-loop cards cycles out₀ n digit i₀ out i = (i ≤ n) × (out ≡ sets out₀ 5 (frameLines cards cycles i))
 
 abbrev μ-loop : tie.MeasureT-loop
-μ-loop ticket plan out₀ n digit i₀ out i = n - i
-
-sub-n : tie.Need-sub-n Inv-loop μ-loop
-sub-n c = omega (arith, long _ _ _ (c .before .before .before .pre))
+μ-loop cards cycles out₀ n digit i₀ out i = n - i
 
 mul-if1 : tie.Need-mul-if1 Inv-loop μ-loop
-mul-if1 c = omega (arith, long _ _ _ (c .before .before .before .pre), frames-few _ _ _ (c .before .before .before .pre))
+mul-if1 c = search needs
 
 add-if1 : tie.Need-add-if1 Inv-loop μ-loop
-add-if1 c = omega (arith, long _ _ _ (c .before .before .before .pre), frames-few _ _ _ (c .before .before .before .pre))
+add-if1 c = search needs
 
 returns : tie.Need-returns Inv-loop μ-loop
-returns c = no-room _ _ (omega (arith, long _ _ _ (c .before .before .before .before .pre), text-long _ _ _ (c .before .before .before .before .pre)))
+returns c =
+    let given = c .before .before .before .before .args in
+    no-room _ _ (omega (arith, plan-long (given .cards .now) (record { cycles = given .cycles .now; T = given .t .0 })))
 
 digit-texts-requires : tie.Need-digit-texts-requires Inv-loop μ-loop
 digit-texts-requires c κs = search needs
@@ -41,19 +41,16 @@ loop-holds : tie.Need-loop-holds Inv-loop μ-loop
 loop-holds c = (omega arith, no-lines _ _ _)
 
 cast-position : tie.Need-cast-position Inv-loop μ-loop
-cast-position c =
-    let head = c .before .before .before .before in
-    let made = head .before .before .before .before .before .before .before .before .pre in
-    omega (arith, long _ _ _ made, frames-few _ _ _ made)
+cast-position c = search needs
+
+shared-slice-read-card : tie.Need-shared-slice-read-card Inv-loop μ-loop
+shared-slice-read-card c = search needs
 
 mul-cycle : tie.Need-mul-cycle Inv-loop μ-loop
 mul-cycle c = search needs
 
 shared-slice-read-cycle : tie.Need-shared-slice-read-cycle Inv-loop μ-loop
-shared-slice-read-cycle c =
-    let head = c .before .before .before .before .before in
-    let made = head .before .before .before .before .before .before .before .before .pre in
-    omega (arith, long _ _ _ made, made .room)
+shared-slice-read-cycle c = search needs
 
 mul-frame-line : tie.Need-mul-frame-line Inv-loop μ-loop
 mul-frame-line c = search needs
@@ -61,31 +58,16 @@ mul-frame-line c = search needs
 add-frame-line : tie.Need-add-frame-line Inv-loop μ-loop
 add-frame-line c = search needs
 
-mul-frame-line-2 : tie.Need-mul-frame-line-2 Inv-loop μ-loop
-mul-frame-line-2 c = search needs
-
-add-frame-line-2 : tie.Need-add-frame-line-2 Inv-loop μ-loop
-add-frame-line-2 c = search needs
-
-shared-slice-read-frame-line : tie.Need-shared-slice-read-frame-line Inv-loop μ-loop
-shared-slice-read-frame-line c = search needs
-
-mul-frame-line-3 : tie.Need-mul-frame-line-3 Inv-loop μ-loop
-mul-frame-line-3 c = search needs
-
-add-frame-line-3 : tie.Need-add-frame-line-3 Inv-loop μ-loop
-add-frame-line-3 c = search needs
-
-shared-slice-read-frame-line-2 : tie.Need-shared-slice-read-frame-line-2 Inv-loop μ-loop
-shared-slice-read-frame-line-2 c = search needs
-
 frame-line-requires : tie.Need-frame-line-requires Inv-loop μ-loop
 frame-line-requires c κs =
-    let turn = c .before .before .before .before .before .before in
+    let turn = c .before .before .before .before .before in
     let head = turn .before .before .before in
     let start = head .before .before .before .before .before .before .before .before in
-    let text = linesFrom (start .args .ticket .now) (start .args .plan .now) (turn .loop .i) in
-    (head .before .before .before .digit-texts .ensures, omega (arith, head-length _ _ _ _ text (head .put4 .ensures) (turn .loop .inv .1)))
+    let text = frameLines (start .args .cards .now) (start .args .cycles .now) (turn .loop .i) in (
+      head .before .before .before .digit-texts .ensures,
+      omega (arith, head-length _ _ _ _ text (head .put4 .ensures) (turn .loop .inv .1)),
+      omega arith,
+    )
 
 add-i : tie.Need-add-i Inv-loop μ-loop
 add-i c = search needs
@@ -95,7 +77,7 @@ loop-less c = search needs
 
 loop-again : tie.Need-loop-again Inv-loop μ-loop
 loop-again c =
-    let turn = c .before .before .before .before .before .before .before .before .before in
+    let turn = c .before .before .before .before .before .before .before .before in
     (omega arith, next-line _ _ _ _ _ _ (turn .loop .inv .1) (c .before .before .frame-line .ensures))
 
 mul-result : tie.Need-mul-result Inv-loop μ-loop
@@ -108,14 +90,13 @@ same-length : tie.Need-same-length Inv-loop μ-loop
 same-length c =
     let head = c .before .before .before .before in
     let start = head .before .before .before .before .before .before .before .before in
-    let text = linesFrom (start .args .ticket .now) (start .args .plan .now) (c .before .loop .i) in
+    let text = frameLines (start .args .cards .now) (start .args .cycles .now) (c .before .loop .i) in
     head-length _ _ _ _ text (head .put4 .ensures) (c .before .loop .inv .1)
 
 returns-2 : tie.Need-returns-2 Inv-loop μ-loop
 returns-2 c =
     let head = c .before .before .before .before in
-    let made = head .before .before .before .before .before .before .before .before .pre in
-    put-all _ _ _ made _ _ _ _ _ (frames-is _ _ _ made) (omega arith) (omega arith) (head .put4 .ensures) (c .before .loop .inv .1)
+    put-all _ _ _ _ _ _ _ (omega arith) (omega arith) (head .put4 .ensures) (c .before .loop .inv .1)
 
 pub plan-spec : {M : Type 1} → statement M
 plan-spec =
@@ -123,7 +104,6 @@ plan-spec =
     (tie.spec
     Inv-loop
     μ-loop
-    sub-n
     mul-if1
     add-if1
     returns
@@ -132,16 +112,11 @@ plan-spec =
     slice-write-out
     loop-holds
     cast-position
+    shared-slice-read-card
     mul-cycle
     shared-slice-read-cycle
     mul-frame-line
     add-frame-line
-    mul-frame-line-2
-    add-frame-line-2
-    shared-slice-read-frame-line
-    mul-frame-line-3
-    add-frame-line-3
-    shared-slice-read-frame-line-2
     frame-line-requires
     add-i
     loop-less

@@ -1,0 +1,2 @@
+pub mod Plans
+pub mod Filled
