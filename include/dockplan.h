@@ -20,9 +20,10 @@
  *   - DOCKPLAN_STACK_.. is the stack that the call uses, in bytes, as measured on x86-64: all that lies below
  *     its return address. Results of more than 16 bytes and the saver's record stand in the caller's memory.
  *
- * A ticket is text: a header of 14 digits and a line of 2 digits for each frame (docs/FORMAT.md). Any bytes may
- * be handed in as a ticket. L is the number of its frames, T the number of a plan's cycles. The paper is D. A.
- * Hutchinson, P. Sanders and J. S. Vitter, "Duality between prefetching and queued writing with parallel disks".
+ * A ticket is text: a header of 14 digits and a line of 2 digits for each frame (docs/FORMAT.md). Digits are
+ * hexadecimal, in either case; tickets with the same values get the same answers. Any bytes may be handed in as a
+ * ticket. L is the number of its frames, T the number of a plan's cycles. The paper is D. A. Hutchinson, P. Sanders
+ * and J. S. Vitter, "Duality between prefetching and queued writing with parallel disks".
  *
  * Refusals, in the order in which they are tried: 1 to 6, then line by line 7 before 8, then 9; after that 10, or
  * 12 before 11, or 16. A saver's are given with its calls.
@@ -48,8 +49,8 @@
 extern "C" {
 #endif
 
-/* The version of this header: 100 for 1.0. It grows whenever a call is added or changed. */
-#define DOCKPLAN_VERSION 100
+/* The version of this header: 101 for 1.1. It grows whenever a call is added or changed. */
+#define DOCKPLAN_VERSION 101
 
 /* The version of the archive. Header and archive belong together exactly when this is DOCKPLAN_VERSION. */
 uint32_t dockplan_version(void);
@@ -101,8 +102,8 @@ typedef struct {
     size_t length;
 } dockplan_part;
 
-/* The line of the frame at a position: the 2 digits of its card, without the end byte. With a refusal (1 to 9,
- * then 16) offset and length are 0; the number is dockplan_line_refusal's. */
+/* The line of the frame at a position: the 2 digits of its card as they stand there, without the end byte. With a
+ * refusal (1 to 9, then 16) offset and length are 0; the number is dockplan_line_refusal's. */
 dockplan_part dockplan_line(const uint8_t *ticket, size_t bytes, dockplan_position position);
 #define DOCKPLAN_STACK_LINE 4496
 
@@ -133,7 +134,7 @@ typedef struct {
  * (0 for a frame that save and keep leaves in the pool), later places keep their content. Refusals 1 to 9, then 10
  * where `places` is below L. L is dockplan_parse's, and DOCKPLAN_MAX_FRAMES places are always enough. */
 dockplan_plan_answer dockplan_plan(const uint8_t *ticket, size_t bytes, uint16_t *plan, size_t places);
-#define DOCKPLAN_STACK_PLAN 12544
+#define DOCKPLAN_STACK_PLAN 12560
 
 /* Prints the plan of a ticket as text: T in 4 digits, then for each frame its position (4), card (2) and cycle (4),
  * in upper-case hexadecimal, each line with its end byte. A ticket that is refused (1 to 9) prints one line, FF and
@@ -141,7 +142,7 @@ dockplan_plan_answer dockplan_plan(const uint8_t *ticket, size_t bytes, uint16_t
  * places keep their content. Where the whole text has no room, the answer is 0 and nothing changes;
  * DOCKPLAN_MAX_PRINTED_BYTES places are always enough. */
 size_t dockplan_print(const uint8_t *ticket, size_t bytes, uint8_t *text, size_t places);
-#define DOCKPLAN_STACK_PRINT 20800
+#define DOCKPLAN_STACK_PRINT 20816
 
 /* ---- Plans that anyone made ---------------------------------------------------------------------------------- */
 

@@ -45,6 +45,21 @@ pub data Call : Type 0 where
   startDock : List ℕ → List ℕ → Call
   driveDock : Dock → List ℕ → Step → Call
 
+-- The same call with another ticket; a call that takes none stays.
+abbrev pub withTicket : List ℕ → Call → Call
+withTicket t (parseTicket _) = parseTicket t
+withTicket t (planTicket _ buffer) = planTicket t buffer
+withTicket t (printPlan _ buffer) = printPlan t buffer
+withTicket t (checkPlan _ cycles) = checkPlan t cycles
+withTicket t (runPlan _ cycles) = runPlan t cycles
+withTicket t (line _ p) = line t p
+withTicket t (counts _) = counts t
+withTicket t (newSaver cards pool) = newSaver cards pool
+withTicket t (save s card) = save s card
+withTicket t (close s) = close s
+withTicket t (startDock _ memory) = startDock t memory
+withTicket t (driveDock d memory step) = driveDock d memory step
+
 -- What it answers, and lent memory afterwards.
 pub data Result : Type 0 where
   -- refusal, edition, mode, cards, pool, frames

@@ -139,6 +139,10 @@ cases =
     ∷ planTicket read001 (9 ∷ 9 ∷ 9 ∷ 9 ∷ []) gives plan 0 2 (1 ∷ 2 ∷ 2 ∷ 9 ∷ [])
     ∷ line read001 1 gives part 18 2 0
     ∷ counts read001 gives cardCounts 0 (2 ∷ 1 ∷ replicate 30 0)
+    -- digits in either case: `01001f02eb0000`, `01001d01ca0000`; and g, which is none: `010002000g0000`
+    ∷ parseTicket (48 ∷ 49 ∷ 48 ∷ 48 ∷ 49 ∷ 102 ∷ 48 ∷ 50 ∷ 101 ∷ 98 ∷ 48 ∷ 48 ∷ 48 ∷ 48 ∷ 10 ∷ []) gives ticket 0 1 0 31 747 0
+    ∷ parseTicket (48 ∷ 49 ∷ 48 ∷ 48 ∷ 49 ∷ 100 ∷ 48 ∷ 49 ∷ 99 ∷ 97 ∷ 48 ∷ 48 ∷ 48 ∷ 48 ∷ 10 ∷ []) gives ticket 0 1 0 29 458 0
+    ∷ parseTicket (48 ∷ 49 ∷ 48 ∷ 48 ∷ 48 ∷ 50 ∷ 48 ∷ 48 ∷ 48 ∷ 103 ∷ 48 ∷ 48 ∷ 48 ∷ 48 ∷ 10 ∷ []) gives ticket 1 0 0 0 0 0
     -- the verdicts: 1 valid, 2 cycle 0, 3 a shared card, 4 too many in the pool
     ∷ checkPlan read001 (1 ∷ 2 ∷ 1 ∷ []) gives verdict 0 1 0 2 1
     ∷ checkPlan save001 (1 ∷ 2 ∷ 2 ∷ []) gives verdict 0 1 0 2 0

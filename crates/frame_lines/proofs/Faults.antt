@@ -15,7 +15,8 @@ use Rattle.counting.specs.Count.{bit, tabulate}
 use Rattle.counting.proofs.Bits.{by-cases}
 use Rattle.counting.proofs.Sums.{sum-cong, all-below, howMany-le}
 use Rattle.text.specs.Text.{endByte, digit, digits, number, isLine}
-use Rattle.text.proofs.Digits.{digit-below, line-long, line-end, is-line}
+use Rattle.text.proofs.Bytes.{digit-below}
+use Rattle.text.proofs.Digits.{line-long, line-end, is-line}
 use Rattle.frame_lines.specs.Lines.{lineBytes, lineDigits, cardAt, lineFault, linesFault, partFault, linesPassing, cardsRead}
 use Rattle.frame_lines.specs.Reading.{ReadTo}
 

@@ -28,6 +28,6 @@ pub whole-text :
     → (bytesIn (printed t) (length before) ≡ length (printed t)) × (bufferAfter (printed t) before ≡ written (printed t) before)
 whole-text = short.whole-text
 
--- The example of document 01 and two refusals, byte by byte.
+-- The example of document 01, a ticket typed in either case, and two refusals, byte by byte.
 pub texts-hold : map (λ (c : Case). c .text) cases ≡ map (λ (c : Case). c .expected) cases
 texts-hold = table.texts-hold

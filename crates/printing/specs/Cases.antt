@@ -1,8 +1,8 @@
--- Texts printed, byte by byte (48 to 57 are the digits 0-9, 65 to 70 A-F, 10 ends a line).
+-- Texts printed, byte by byte (48 to 57 are the digits 0-9, 65 to 70 A-F, 97 to 102 a-f, 10 ends a line).
 -- Assumes nothing.
 use Prim.Native.Nat.{ℕ}
 use mathlib.Core.List.{List, [], _∷_}
-use Rattle.print_lines.specs.Put.{refusalText}
+use Rattle.print_lines.specs.Lines.{refusalText}
 use Rattle.printing.specs.Printed.{printed}
 
 -- a text printed, and the text that it should be
@@ -28,10 +28,29 @@ firstText =
     48 ∷ 48 ∷ 48 ∷ 50 ∷ 48 ∷ 49 ∷ 48 ∷ 48 ∷ 48 ∷ 50 ∷ 10 ∷
     []
 
+-- The same list on cards 11 and 10, typed in either case: `01000c00020003`, `0b`, `0B`, `0a` ..
+abbrev mixedTicket : List ℕ
+mixedTicket =
+    48 ∷ 49 ∷ 48 ∷ 48 ∷ 48 ∷ 99 ∷ 48 ∷ 48 ∷ 48 ∷ 50 ∷ 48 ∷ 48 ∷ 48 ∷ 51 ∷ 10 ∷
+    48 ∷ 98 ∷ 10 ∷
+    48 ∷ 66 ∷ 10 ∷
+    48 ∷ 97 ∷ 10 ∷
+    []
+
+-- .. "Printed lines remain upper case": `0002`, `00000B0001`, `00010B0002`, `00020A0002`.
+abbrev mixedText : List ℕ
+mixedText =
+    48 ∷ 48 ∷ 48 ∷ 50 ∷ 10 ∷
+    48 ∷ 48 ∷ 48 ∷ 48 ∷ 48 ∷ 66 ∷ 48 ∷ 48 ∷ 48 ∷ 49 ∷ 10 ∷
+    48 ∷ 48 ∷ 48 ∷ 49 ∷ 48 ∷ 66 ∷ 48 ∷ 48 ∷ 48 ∷ 50 ∷ 10 ∷
+    48 ∷ 48 ∷ 48 ∷ 50 ∷ 48 ∷ 65 ∷ 48 ∷ 48 ∷ 48 ∷ 50 ∷ 10 ∷
+    []
+
 -- FF01 and FF10: an empty ticket, and how refusal 16 would be printed
 unfoldable pub cases : List Case
 cases =
     record { text = printed firstTicket; expected = firstText } ∷
+    record { text = printed mixedTicket; expected = mixedText } ∷
     record { text = printed []; expected = 70 ∷ 70 ∷ 48 ∷ 49 ∷ 10 ∷ [] } ∷
     record { text = refusalText 16; expected = 70 ∷ 70 ∷ 49 ∷ 48 ∷ 10 ∷ [] } ∷
     []

@@ -10,7 +10,8 @@ use lib.ListN.{length, getD, length-append, List·getD-append}
 use lib.Seq.{getD-at, getD-append-add}
 use Rattle.text.specs.Hex.{digitOf, hex, endOfLine}
 use Rattle.text.specs.Text.{endByte, digit, number, Line}
-use Rattle.text.proofs.Hex.{decimal, letter, small-digit, large-digit, length-hex}
+use Rattle.text.proofs.Bytes.{decimal, letter}
+use Rattle.text.proofs.Hex.{small-digit, large-digit, length-hex}
 
 digit-again : (v : ℕ) → v < 16 → digit (digitOf v) ≡ v
 digit-again v h =

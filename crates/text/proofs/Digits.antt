@@ -2,16 +2,16 @@
 -- Assumes nothing.
 use Prim.Native.Nat.{ℕ, zero, suc, _+_, _-_, _*_, _^_, _≤_, _<_}
 use mathlib.Core.Path.{_≡_, refl}
-use mathlib.Core.Bool.{true, false, _&&_, and-false, cond}
+use mathlib.Core.Bool.{true, false, _&&_, and-false}
 use mathlib.Core.List.{List}
 use native.Mathlib.Omega.{arith}
 use native.Mathlib.Numerals.{add-one}
 use native.Mathlib.Decide.{decLt}
 use native.Mathlib.Nat.{pow-suc, pow-le-pow-right}
-use lib.Dec.{eqb, leb, ltb}
+use lib.Dec.{eqb, ltb}
 use lib.ListN.{length, getD}
-use borrow.Author.Tests.{lt-ltb, le-ltb, ltb-true, leb-true, eqb-true}
-use Rattle.counting.proofs.Bits.{by-cases, by-test, and-left, and-right}
+use borrow.Author.Tests.{lt-ltb, le-ltb, ltb-true, eqb-true}
+use Rattle.counting.proofs.Bits.{by-cases, and-left, and-right}
 use Rattle.counting.proofs.Lists.{getD-tabulate}
 use Rattle.text.specs.Text.{digit, digitValues, digits, number, isLine, isDigit, endByte}
 
@@ -19,17 +19,6 @@ use Rattle.text.specs.Text.{digit, digitValues, digits, number, isLine, 
 pub value-of : (l : List ℕ) → l ≡ digitValues → (b : ℕ) → b < 256 → getD l b 0 ≡ digit b
 unfolding digitValues
 value-of l e b h = rw e (getD-tabulate 256 digit b 0 h)
-
--- a byte that is no digit has a value of its own, far above the digits'
-pub digit-below : (b : ℕ) → digit b < 255 → digit b < 16
-unfolding digit
-digit-below b =
-    by-test (λ d. d < 255 → d < 16) (leb 48 b && leb b 57) (b - 48) (cond (leb 65 b && leb b 70) (b - 55) 255)
-    (λ e h. omega (arith, leb-true b 57 (and-right (leb 48 b) _ e)))
-    (λ n.
-    by-test (λ d. d < 255 → d < 16) (leb 65 b && leb b 70) (b - 55) 255
-    (λ e h. omega (arith, leb-true b 70 (and-right (leb 65 b) _ e)))
-    (λ m h. omega arith))
 
 module _ (s : List ℕ) (at : ℕ) where
   pub number-step : (n : ℕ) → number s at n * 16 + digit (getD s (at + n) 0) ≡ number s at (suc n)

@@ -3,3 +3,5 @@ pub mod Hex
 pub mod Again
 pub mod Lines
 pub mod Digits
+pub mod Bytes
+pub mod UpperCase

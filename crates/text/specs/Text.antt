@@ -13,10 +13,14 @@ use Rattle.counting.specs.Count.{tabulate}
 abbrev pub endByte : ℕ
 endByte = 10
 
--- "upper-case hexadecimal (0-9, A-F)": the value of a digit, and 255 for a byte that is no digit. A number of 2 digits is 255 or more
--- where one of them is none.
+-- "A digit now has its value in either case": that of 0-9, of A-F and of a-f, and 255 for a byte that is no digit. A number of 2 digits is
+-- 255 or more where one of them is none.
 unfoldable pub digit : ℕ → ℕ
-digit b = cond (leb 48 b && leb b 57) (b - 48) (cond (leb 65 b && leb b 70) (b - 55) 255)
+digit b =
+    cond (leb 48 b && leb b 57) (b - 48)
+    (cond (leb 65 b && leb b 70) (b - 55)
+    (cond (leb 97 b && leb b 102) (b - 87)
+    255))
 
 abbrev pub isDigit : ℕ → Bool
 isDigit b = ltb (digit b) 16

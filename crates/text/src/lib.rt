@@ -9,7 +9,7 @@ pub mod write;
 // The byte that ends a line.
 pub const END: u8 = 10;
 
-// For each byte its value as a digit, 255 where it is no digit. A caller builds the table once and lends it for each digit.
+// For each byte its value as a digit, in either case, and 255 where it is no digit. A caller builds the table once and lends it for each digit.
 pub fn digit_values() -> [u8; 256]
     ensures { λ r. ⌜ r ≡ digitValues ⌝ }
 {
@@ -30,6 +30,12 @@ pub fn digit_values() -> [u8; 256]
     value[68] = 13;
     value[69] = 14;
     value[70] = 15;
+    value[97] = 10;
+    value[98] = 11;
+    value[99] = 12;
+    value[100] = 13;
+    value[101] = 14;
+    value[102] = 15;
     value
 }
 

@@ -7,3 +7,4 @@ pub mod Memory
 pub mod Accepted
 pub mod Reader
 pub mod Passing
+pub mod EitherCase

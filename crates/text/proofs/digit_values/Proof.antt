@@ -54,6 +54,24 @@ array-write-value-15 c = search needs
 array-write-value-16 : tie.Need-array-write-value-16
 array-write-value-16 c = search needs
 
+array-write-value-17 : tie.Need-array-write-value-17
+array-write-value-17 c = search needs
+
+array-write-value-18 : tie.Need-array-write-value-18
+array-write-value-18 c = search needs
+
+array-write-value-19 : tie.Need-array-write-value-19
+array-write-value-19 c = search needs
+
+array-write-value-20 : tie.Need-array-write-value-20
+array-write-value-20 c = search needs
+
+array-write-value-21 : tie.Need-array-write-value-21
+array-write-value-21 c = search needs
+
+array-write-value-22 : tie.Need-array-write-value-22
+array-write-value-22 c = search needs
+
 returns : tie.Need-returns
 unfolding digitValues digit
 returns c = refl
@@ -78,4 +96,10 @@ digit-values-spec =
     array-write-value-14
     array-write-value-15
     array-write-value-16
+    array-write-value-17
+    array-write-value-18
+    array-write-value-19
+    array-write-value-20
+    array-write-value-21
+    array-write-value-22
     returns)
