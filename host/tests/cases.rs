@@ -150,6 +150,38 @@ fn printing() {
     assert_eq!(&out[..bytes], b"FF01\n");
 }
 
+/// "A digit now has its value in either case, also mixed within a line. .. Printed lines remain upper case": header fields and
+/// cards in lower case, and mixed within one number. The line handed back has the caller's own bytes.
+#[test]
+fn either_case() {
+    let (upper, mixed) = (b"01001f00aB0003\n1E\n0A\n0b\n", b"01001F00Ab0003\n1e\n0a\n0B\n");
+    for ticket in [upper, mixed] {
+        let header = dockplan::parse(ticket).unwrap();
+        assert_eq!((header.cards, header.pool, header.frames), (31, 171, 3));
+        let mut plan = [0; 3];
+        assert_eq!(dockplan::plan(ticket, &mut plan), Ok(Cycle(1)));
+        assert_eq!(plan, [1, 1, 1]);
+        let mut out = [0; 64];
+        let bytes = dockplan::print(ticket, &mut out);
+        assert_eq!(&out[..bytes], b"0001\n00001E0001\n00010A0001\n00020B0001\n");
+    }
+    assert_eq!(dockplan::line(upper, Position(0)), Ok(&b"1E"[..]));
+    assert_eq!(dockplan::line(mixed, Position(0)), Ok(&b"1e"[..]));
+}
+
+/// The bytes next to the digits are none: 2F 3A 40 47 60 67 hex, in the header, in a card's first digit and in its second.
+#[test]
+fn no_digits() {
+    for byte in [0x2F, 0x3A, 0x40, 0x47, 0x60, 0x67] {
+        for (place, number) in (0..14).map(|place| (place, 1)).chain([(15, 7), (16, 7)]) {
+            let mut ticket = *b"01002000020001\n00\n";
+            assert_eq!(refusal(&ticket), 0);
+            ticket[place] = byte;
+            assert_eq!(refusal(&ticket), number, "byte {byte:02X} at {place}");
+        }
+    }
+}
+
 /// "For a position, the reader hands back that frame's line as a part of the caller's own ticket, without its end
 /// byte."
 #[test]

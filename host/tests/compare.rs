@@ -57,6 +57,10 @@ fn compare_ticket(random: &mut Random, ticket: &[u8], tally: &mut Tally) {
     } else {
         same::foreign::compare_refused(random, ticket);
     }
+    if random.once_in(4) {
+        let plan = plans::foreign(random, &own);
+        same::typing::compare(ticket, header.frames, &plan, tally);
+    }
     if random.once_in(16) {
         let plan = plans::foreign(random, &own);
         same::wrappers::compare(ticket, header.frames, &plan, tally);

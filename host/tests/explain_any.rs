@@ -189,7 +189,8 @@ fn with_lines(text: &[u8], lines: usize) -> Vec<u8> {
     first.iter().chain(frames).copied().collect()
 }
 
-/// A valid plan is at fault once it is cut, has bytes added, or has a byte other than a cycle's digit changed.
+/// A valid plan is at fault once it is cut, has bytes added, or has a byte other than a cycle's digit changed by more than
+/// its case.
 #[test]
 fn damaged_plan_files() {
     let mut random = Random::new(15);
@@ -202,7 +203,9 @@ fn damaged_plan_files() {
         assert!(!is_good(&ticket, &[&text[..], &[more]].concat()), "byte {more} added");
         let mut changed = text.clone();
         changed[place] ^= 1 << choices.below(8);
-        if !is_digit_of_cycle(place) || !changed[place].is_ascii_hexdigit() || changed[place].is_ascii_lowercase() {
+        if changed[place].eq_ignore_ascii_case(&text[place]) {
+            assert!(is_good(&ticket, &changed), "the case of byte {place} changed");
+        } else if !is_digit_of_cycle(place) || !changed[place].is_ascii_hexdigit() {
             assert!(!is_good(&ticket, &changed), "byte {place} changed");
         }
     }

@@ -58,6 +58,19 @@ fn valid_plans() {
     );
 }
 
+/// A plan that was typed in lower case has the same numbers.
+#[test]
+fn either_case() {
+    valid(
+        "01000c00020003\n0b\n0B\n0a\n",
+        "0002\n00000b0001\n00010B0002\n00020a0002\n",
+        &[
+            "  It has 2 cycles, and no plan has fewer.",
+            "  Its peak, the most frames held right after a cycle, is 0.",
+        ],
+    );
+}
+
 /// The three faults that the checker names.
 #[test]
 fn verdicts() {
@@ -153,7 +166,7 @@ fn no_printed_plans() {
             "  It is not a printed plan.",
             "  Place:    line 3, byte 5; offset 20 from the start of the file",
             "  Found:    space 20",
-            "  Expected: a digit, 0 to 9 or A to F",
+            "  Expected: a digit, 0 to 9, A to F or a to f",
         ],
     );
     at_fault(
@@ -174,7 +187,7 @@ fn no_printed_plans() {
             "  It is not a printed plan.",
             "  Place:    line 1, byte 1; offset 0 from the start of the file",
             "  Found:    the text ends here",
-            "  Expected: a digit, 0 to 9 or A to F",
+            "  Expected: a digit, 0 to 9, A to F or a to f",
             "  Hint:     The file is empty.",
         ],
     );
@@ -189,7 +202,7 @@ fn save_and_keep() {
         "0002\n0000000001\n0001000002\n0002000000\n0003010000\n",
         &[
             not_taken,
-            "  The file is exactly what the library prints for this ticket.",
+            "  The file says exactly what the library prints for this ticket.",
         ],
     );
     at_fault(
@@ -197,7 +210,7 @@ fn save_and_keep() {
         "0003\n0000000001\n0001000002\n0002000003\n0003010003\n",
         &[
             not_taken,
-            "  The file is not what the library prints for this ticket.",
+            "  The file does not say what the library prints for this ticket.",
             "  Line 1 is 0003. The library prints 0002.",
         ],
     );
@@ -206,7 +219,7 @@ fn save_and_keep() {
         "0002\n0000000001\n0001000002\n0002000000\n0003010002\n",
         &[
             not_taken,
-            "  The file is not what the library prints for this ticket.",
+            "  The file does not say what the library prints for this ticket.",
             "  Line 5 is 0003010002. The library prints 0003010000.",
         ],
     );
@@ -224,7 +237,9 @@ fn lines_of_refusals() {
         ],
     );
     let pool_of_0 = "01000200000000\n";
-    plan_says(pool_of_0, "FF05\n", false, &["a.plan: says the same refusal, FF05"]);
+    for line in ["FF05\n", "ff05\n", "fF05\n"] {
+        plan_says(pool_of_0, line, false, &["a.plan: says the same refusal, FF05"]);
+    }
     plan_says(
         pool_of_0,
         "FF07\n",

@@ -92,9 +92,12 @@ fn any_ticket(random: &mut Random) -> Vec<u8> {
     ticket(random.below(3), cards, pool, &list)
 }
 
-/// A ticket that is accepted, or one time in three a damaged one.
+/// A ticket that is accepted, or one time in three a damaged one; every second one is typed in lower case.
 pub fn mixed_ticket(random: &mut Random) -> Vec<u8> {
     let mut text = any_ticket(random);
+    if random.below(2) == 0 {
+        text.make_ascii_lowercase();
+    }
     if random.below(3) == 0 {
         for _ in 0..1 + random.below(3) {
             damage(random, &mut text);
@@ -105,7 +108,7 @@ pub fn mixed_ticket(random: &mut Random) -> Vec<u8> {
 
 /// Changes a byte, cuts a part off, adds a byte, or leaves no ticket at all.
 fn damage(random: &mut Random, text: &mut Vec<u8>) {
-    const BYTES: &[u8] = b"0123456789ABCDEFGabf/:@ \r\n";
+    const BYTES: &[u8] = b"0123456789ABCDEFGabcdefg/:@` \r\n";
     let any_byte = BYTES[random.below(BYTES.len())];
     match random.below(6) {
         0 => text.truncate(random.below(text.len() + 1)),

@@ -99,6 +99,20 @@ fn own_rows(list: &List) -> Vec<Row> {
     ]
 }
 
+/// The printed plan of a ticket that is typed in lower case: read, planned and printed.
+fn typed_row(list: &List) -> Row {
+    let mut ticket = list.ticket(READ);
+    ticket.make_ascii_lowercase();
+    let checked = own_plan(&LIBRARY, &ticket);
+    Row {
+        call: "printing",
+        given: format!("read, typed in lower case, {}", list.name),
+        target: OTHERS,
+        make: print,
+        work: Work::new(ticket, checked),
+    }
+}
+
 /// The checker on plans that are not ours, the dearest found.
 fn foreign_rows(list: &List) -> Vec<Row> {
     let plans = inputs::foreign_plans();
@@ -118,5 +132,7 @@ fn foreign_rows(list: &List) -> Vec<Row> {
 
 pub fn rows(lists: &[List]) -> Vec<Row> {
     let own = lists.iter().flat_map(own_rows);
-    own.chain(foreign_rows(&lists[0])).collect()
+    own.chain([typed_row(&lists[0])])
+        .chain(foreign_rows(&lists[0]))
+        .collect()
 }

@@ -4,11 +4,12 @@
 /// The byte that ends each line.
 pub const END: u8 = 0x0A;
 
-/// The value of a digit, 0-9 and A-F.
+/// The value of a digit, 0-9 and A-F, in either case.
 pub fn digit(byte: u8) -> Option<u32> {
     match byte {
         b'0'..=b'9' => Some(u32::from(byte - b'0')),
         b'A'..=b'F' => Some(u32::from(byte - b'A') + 10),
+        b'a'..=b'f' => Some(u32::from(byte - b'a') + 10),
         _ => None,
     }
 }

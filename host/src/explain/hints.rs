@@ -19,10 +19,6 @@ pub fn of_byte(text: &[u8], place: &Place) -> Option<String> {
     }
     match (&place.expected, text.get(place.offset)) {
         (Expected::Digit | Expected::EndByte, Some(b'\r')) => Some(of_carriage_return(text, place)),
-        (Expected::Digit, Some(byte @ b'a'..=b'f')) => {
-            let (lower, upper) = (char::from(*byte), char::from(byte.to_ascii_uppercase()));
-            Some(format!("Digits are upper case: {upper}, not {lower}."))
-        }
         (Expected::Digit, Some(&END)) if place.byte == 1 => Some("The line is blank.".to_string()),
         (Expected::Digit, Some(&END)) => {
             let digits = count(place.byte - 1, "digit");

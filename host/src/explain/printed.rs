@@ -60,9 +60,9 @@ pub fn read(text: &[u8]) -> Result<Printed, Place> {
 
 /// The number of a refusal's line: FF and 2 digits, and nothing after it.
 fn refusal(text: &[u8]) -> Option<u8> {
-    let digits = text.strip_prefix(b"FF")?.strip_suffix(&[END])?;
-    (text.len() == FIRST_LINE_BYTES).then_some(())?;
-    u8::try_from(number(digits)?).ok()
+    let (mark, number_of) = text.strip_suffix(&[END])?.split_at_checked(2)?;
+    (text.len() == FIRST_LINE_BYTES && number(mark) == Some(0xFF)).then_some(())?;
+    u8::try_from(number(number_of)?).ok()
 }
 
 /// A frame's line, which is known to be digits and an end byte.

@@ -81,7 +81,7 @@ fn byte_at(text: &[u8], offset: usize) -> String {
 
 fn expected(expected: &Expected) -> String {
     match expected {
-        Expected::Digit => "a digit, 0 to 9 or A to F".to_string(),
+        Expected::Digit => "a digit, 0 to 9, A to F or a to f".to_string(),
         Expected::EndByte => "the end byte 0A".to_string(),
         Expected::Field(field) if field.least == field.most => {
             let (value, width) = (field.most, field.digits);

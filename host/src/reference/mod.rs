@@ -1,4 +1,4 @@
-//! The calls a second time, written from document 01 alone and close to its words. It is simple rather than fast.
+//! The calls a second time, written from documents 01 and 02 alone and close to their words. It is simple rather than fast.
 //! Each answer is the whole struct of the C call, so that the zeros beside a refusal are compared too.
 //! Edition 1 of the ticket only.
 

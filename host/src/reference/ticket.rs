@@ -99,18 +99,19 @@ pub fn line(ticket: &[u8], position: Position) -> Result<Part, u8> {
     })
 }
 
-/// "Each line is upper-case hexadecimal (0-9, A-F) and ends in byte 0A hex": the digits of such a line.
+/// "Each line is .. hexadecimal .. and ends in byte 0A hex": the digits of such a line.
 fn line_of_digits(line: Option<&[u8]>) -> Option<&[u8]> {
     let (&end, digits) = line?.split_last()?;
     let all_digits = digits.iter().all(|&byte| digit(byte).is_some());
     (all_digits && end == END).then_some(digits)
 }
 
-/// "Upper-case hexadecimal (0-9, A-F)": the value of a digit.
+/// "a to f as well as A to F. A digit now has its value in either case": the value of a digit.
 fn digit(byte: u8) -> Option<u32> {
     match byte {
         b'0'..=b'9' => Some(u32::from(byte - b'0')),
         b'A'..=b'F' => Some(u32::from(byte - b'A') + 10),
+        b'a'..=b'f' => Some(u32::from(byte - b'a') + 10),
         _ => None,
     }
 }

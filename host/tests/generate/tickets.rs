@@ -12,16 +12,17 @@ struct Fields {
     list: Vec<usize>,
 }
 
-/// Any bytes at all, and most often something close to a ticket.
+/// Any bytes at all, and most often something close to a ticket, typed in either case.
 pub fn any(random: &mut Random) -> Vec<u8> {
-    match random.below(20) {
+    let ticket = match random.below(20) {
         0..=10 => valid(random),
         11..=13 => written(&with_field_at_limit(random)),
         14..=16 => damaged(random),
         17 => with_bad_card(random),
         18 => with_bytes_after(random),
         _ => no_ticket(random),
-    }
+    };
+    typed(random, ticket)
 }
 
 /// A ticket that is accepted.
@@ -110,6 +111,19 @@ fn written(fields: &Fields) -> Vec<u8> {
     text.into_bytes()
 }
 
+/// The same ticket as another editor writes it: letters in upper case, in lower case, or mixed within each number.
+fn typed(random: &mut Random, mut ticket: Vec<u8>) -> Vec<u8> {
+    match random.below(3) {
+        0 => {}
+        1 => ticket.make_ascii_lowercase(),
+        _ => ticket
+            .iter_mut()
+            .filter(|_| random.once_in(2))
+            .for_each(|byte| byte.make_ascii_lowercase()),
+    }
+    ticket
+}
+
 /// One field, or two for the order of the refusals, at a limit or one past it.
 fn with_field_at_limit(random: &mut Random) -> Fields {
     let frames = random.below(12);
@@ -163,24 +177,24 @@ fn damage(random: &mut Random, ticket: &mut Vec<u8>) {
     }
 }
 
-/// Bytes that a careless reader may take for a digit or an end byte.
+/// Bytes that a careless reader may take for a digit or an end byte: those next to the digits first of all, / and :, @ and G,
+/// ` and g.
 fn near_miss(random: &mut Random) -> u8 {
-    random.pick(b"/:@G`agAFaf\n\r\t \0\x0B\x8A\xB0\xFF")
+    random.pick(b"/:@G`gAFaf\n\r\t \0\x0B\x8A\xB0\xC1\xE1\xFF")
 }
 
 fn digit(random: &mut Random) -> u8 {
-    random.pick(b"0123456789ABCDEF")
+    random.pick(b"0123456789ABCDEFabcdef")
 }
 
-/// All letters in lower case, or other end bytes.
+/// Other end bytes, or none.
 fn change_ends(random: &mut Random, ticket: &mut Vec<u8>) {
-    match random.below(4) {
-        0 => ticket.make_ascii_lowercase(),
-        1 => ticket
+    match random.below(3) {
+        0 => ticket
             .iter_mut()
             .filter(|byte| **byte == b'\n')
             .for_each(|byte| *byte = b'\r'),
-        2 => ticket.retain(|&byte| byte != b'\n'),
+        1 => ticket.retain(|&byte| byte != b'\n'),
         _ => _ = ticket.pop(),
     }
 }

@@ -4,6 +4,7 @@ pub mod foreign;
 pub mod planning;
 pub mod reading;
 pub mod saving;
+pub mod typing;
 pub mod wrappers;
 
 use std::fmt::{Debug, Display};

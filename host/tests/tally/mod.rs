@@ -9,6 +9,9 @@ pub struct Tally {
     pub plans: u64,
     pub saver_calls: u64,
     pub wrapped: u64,
+    /// Tickets with a small letter among their digits, and of these the accepted ones with frames.
+    small_letters: u64,
+    small_letters_accepted: u64,
     /// By number. A ticket's own refusal counts once for the ticket.
     refusals: [u64; 17],
     saver_refusals: [u64; 17],
@@ -39,6 +42,12 @@ impl Tally {
         }
     }
 
+    /// Counts a ticket that differs from its upper-case text. A refused one has no frames here.
+    pub fn typed(&mut self, ticket: &[u8], upper: &[u8], frames: u16) {
+        self.small_letters += u64::from(ticket != upper);
+        self.small_letters_accepted += u64::from(ticket != upper && frames > 0);
+    }
+
     pub fn saver_refusal(&mut self, refusal: u8) {
         self.saver_refusals[usize::from(refusal)] += 1;
     }
@@ -62,6 +71,8 @@ impl Tally {
         self.plans += other.plans;
         self.saver_calls += other.saver_calls;
         self.wrapped += other.wrapped;
+        self.small_letters += other.small_letters;
+        self.small_letters_accepted += other.small_letters_accepted;
         self.broken += other.broken;
         self.complete += other.complete;
         self.incomplete += other.incomplete;
@@ -77,6 +88,10 @@ impl Tally {
         println!(
             "{} saver calls, {} tickets for the wrappers",
             self.saver_calls, self.wrapped
+        );
+        println!(
+            "{} tickets with small letters beside their upper-case text, {} of them accepted",
+            self.small_letters, self.small_letters_accepted
         );
         for number in 1..=16 {
             println!(
@@ -100,6 +115,7 @@ impl Tally {
     pub fn assert_not_vacuous(&self) {
         assert!(self.tickets >= 100_000 && self.plans >= 100_000 && self.saver_calls >= 100_000);
         assert!(self.wrapped >= 1_000);
+        assert!(self.small_letters >= 2_000 && self.small_letters_accepted >= 1_000);
         assert!(self.broken >= 1_000 && self.complete >= 1_000 && self.incomplete >= 1_000);
         for number in OF_TICKET {
             assert!(self.refusals[number] >= 300, "refusal {number} is too rare");
