@@ -154,8 +154,10 @@ fn printing() {
 /// cards in lower case, and mixed within one number. The line handed back has the caller's own bytes.
 #[test]
 fn either_case() {
-    let (upper, mixed) = (b"01001f00aB0003\n1E\n0A\n0b\n", b"01001F00Ab0003\n1e\n0a\n0B\n");
-    for ticket in [upper, mixed] {
+    let upper = b"01001F00AB0003\n1E\n0A\n0B\n";
+    let lower = b"01001f00ab0003\n1e\n0a\n0b\n";
+    let mixed = b"01001f00aB0003\n1e\n0A\n0b\n";
+    for ticket in [upper, lower, mixed] {
         let header = dockplan::parse(ticket).unwrap();
         assert_eq!((header.cards, header.pool, header.frames), (31, 171, 3));
         let mut plan = [0; 3];
@@ -165,8 +167,9 @@ fn either_case() {
         let bytes = dockplan::print(ticket, &mut out);
         assert_eq!(&out[..bytes], b"0001\n00001E0001\n00010A0001\n00020B0001\n");
     }
-    assert_eq!(dockplan::line(upper, Position(0)), Ok(&b"1E"[..]));
-    assert_eq!(dockplan::line(mixed, Position(0)), Ok(&b"1e"[..]));
+    for (position, line) in [(0, b"1e"), (1, b"0A"), (2, b"0b")] {
+        assert_eq!(dockplan::line(mixed, Position(position)), Ok(&line[..]));
+    }
 }
 
 /// The bytes next to the digits are none: 2F 3A 40 47 60 67 hex, in the header, in a card's first digit and in its second.

@@ -29,7 +29,7 @@ module _ (s : List ℕ) where
   ends-upper i = ap (λ (b : ℕ). eqb b endByte) (byte-upper i) ∙ end-upper (getD s i 0)
 
   module _ (at : ℕ) where
-    pub digits-upper : (n : ℕ) → digits (upperCase s) at n ≡ digits s at n
+    digits-upper : (n : ℕ) → digits (upperCase s) at n ≡ digits s at n
     unfolding digits
     digits-upper zero = refl
     digits-upper (suc n) = rw (digits-upper n, value-upper (at + n))

@@ -125,7 +125,7 @@ module _ (t memory after : List ℕ) (a : Answer) (e : a ≡ answerIn (parse t))
       record {
         long = ap length m ∙ into-long t memory (omega arith) ∙ l;
         refusal = was-refused t a e;
-        list = λ h q. let p = was-accepted t a e h q in rw (front h (p .0) (p .1)) (p .1);
+        list = λ h q. let p = was-accepted t a e h q in p .1 ∙ ap (λ (cards : List ℕ). accepted h cards) (sym (front h (p .0) (p .1)));
         fits = λ h q. let p = was-accepted t a e h q in rw (front h (p .0) (p .1)) (fits t h (p .0) (p .1));
       }
 

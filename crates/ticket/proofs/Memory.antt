@@ -66,7 +66,7 @@ into-part (Accepted g) s memory h cards e =
     let q : accepted g (tabulate (g .frames) (cardAt s)) ≡ accepted h cards = rw z at e in
     let g-is : g ≡ h = cc in
     let cards-are : tabulate (g .frames) (cardAt s) ≡ cards = cc in
-    rw (all-read s (g .cards) (g .frames) memory (eqb-true _ _ z), cards-are, g-is))
+    all-read s (g .cards) (g .frames) memory (eqb-true _ _ z) ∙ rw (cards-are, g-is))
     (λ z.
     let q : refused (partFault s (g .cards) (g .frames)) ≡ accepted h cards = rw z at e in
     let w : _≡_ {A = ℕ} 0 1 = cc in
