@@ -4,6 +4,9 @@ use crate::output;
 use crate::plans;
 use crate::tables;
 
+// The bytes of such a ticket, of edition 01.
+pub(crate) const LONG: usize = 15 + 3 * 4096;
+
 // Byte i of a ticket with this header. The card of a frame is by the first letter of the layout: one card, round robin, or blocks.
 fn byte_of(header: &[u8], layout: u8, i: usize) -> u8 {
     if i < header.len() {
@@ -52,7 +55,7 @@ fn checksum(plan: &[u16]) -> u64 {
 }
 
 pub(crate) fn planned(header: &[u8], layout: &[u8]) {
-    let mut text = [0u8; 12303];
+    let mut text = [0u8; LONG];
     let mut buffer = [0u16; 4096];
     output::left(layout, 12);
     output::left(header, 17);

@@ -18,6 +18,7 @@ fn show_as(how: u8, t: &[u8], more: &[u8]) {
     match how {
         b'a' => tickets::accepted(t),
         b'l' => tickets::lines(t),
+        b'e' => tickets::seconds(t),
         b'w' => walks::walked(t),
         b'W' => walks::walked_far(t, more),
         b'r' => refusals::refused(t),

@@ -1,4 +1,4 @@
-// Accepted tickets: the header's fields, the cards of the frames, the frames of each card, and the lines.
+// Tickets: the header's fields, the cards of the frames, the frames of each card, the lines and the capture seconds.
 use crate::output;
 use counting::Position;
 use header::Answer;
@@ -39,6 +39,23 @@ pub(crate) fn accepted(t: &[u8]) {
     fields(answer);
     output::small_list(&card, 5, 3);
     frames_of_cards(ticket::counts(t));
+}
+
+// The number beside a ticket, and the capture second at the first four positions and at the largest number.
+pub(crate) fn seconds(t: &[u8]) {
+    output::ticket(t);
+    let shown = t.len();
+    output::pad(if shown < 32 { 32 } else { shown }, 50);
+    output::small(ticket::refusal(t), 8);
+    second(t, 0);
+    second(t, 1);
+    second(t, 2);
+    second(t, 3);
+    second(t, 65535);
+}
+
+fn second(t: &[u8], position: u16) {
+    output::size(ticket::second(t, Position(position)) as usize, 11);
 }
 
 // The line at a position, and the number beside it.

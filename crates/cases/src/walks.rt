@@ -45,7 +45,7 @@ pub(crate) fn walked(t: &[u8]) {
 
 // Where 5,000 steps lead through a long list's ticket with this header and layout, and its last lines.
 pub(crate) fn walked_far(header: &[u8], layout: &[u8]) {
-    let mut text = [0u8; 12303];
+    let mut text = [0u8; long_lists::LONG];
     long_lists::put_ticket(&mut text, header, tables::byte_at(layout, 0));
     let t: &[u8] = &text;
     output::number(steps(walker::opened(t), 5000, 0), 5);

@@ -28,7 +28,7 @@ abbrev pub verdictOn : Bool → ℕ → List ℕ → List ℕ → theory.Verdict
 verdictOn true m cards cycles = verdictOnSave m cards cycles
 verdictOn false m cards cycles = verdictOnRead m cards cycles
 
--- "1 to 9, then 12 before 11": the ticket's own refusals, mode 02, and a plan that has not exactly L cycles
+-- "1 to 9, then 12 before 11": the ticket's own refusals, 17 among them, then mode 02, and a plan that has not exactly L cycles
 unfoldable pub checkOf : Parsed → List ℕ → Verdict
 checkOf (accepted h cards) cycles =
     cond (eqb (h .mode) modeSaveAndKeep) (Refused 12)

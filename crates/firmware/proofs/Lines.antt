@@ -20,11 +20,11 @@ module _ (t : List ℕ) (p : ℕ) where
       ]
 
   line-there :
-      (at : ℕ) → at ≡ lineStart p → (length (lineOf t p) ≡ 0 → ⊥)
+      (at : ℕ) → at ≡ lineStart t p → (length (lineOf t p) ≡ 0 → ⊥)
       → (at ≡ linePlace t p) × (take (length (lineOf t p)) (drop at t) ≡ lineOf t p)
   line-there at a n =
       elim (ℕ-discrete (lineRefusalOf (parse t) p) 0) [
-        | yes e ↦ (a ∙ its-place t p (sym e), rw (line-length t p (sym e), a) (sym (cut-line t p refl) ∙ the-line t p (sym e) refl))
+        | yes e ↦ (a ∙ its-place t p (sym e), rw (line-length t p (sym e), a) (sym (cut-line t p refl refl) ∙ the-line t p (sym e) refl refl))
         | no m ↦ absurd (n (sym (ap length (no-line t p refl m))))
       ]
 
@@ -37,7 +37,7 @@ module _ (t : List ℕ) (p : ℕ) where
         (rw (← f, ← g) refl, w .1)
 
     pub the-part :
-        (at : ℕ) → at ≡ lineStart p → (length line ≡ 0 → ⊥)
+        (at : ℕ) → at ≡ lineStart t p → (length line ≡ 0 → ⊥)
         → (record { offset = at; length = length line } ≡ linePart t p) × (take (length line) (drop at t) ≡ lineOf t p)
     the-part at a n =
         let w = line-there at a (λ z. n (ap length l ∙ z)) in

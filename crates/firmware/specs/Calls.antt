@@ -2,7 +2,7 @@
 -- dock's calls. specs/Cases.antt is a table of these.
 -- Assumes nothing.
 use Prim.Native.Nat.{ℕ}
-use mathlib.Core.Bool.{Bool}
+use mathlib.Core.Bool.{Bool, true, false}
 use mathlib.Core.List.{List, map}
 use lib.ListN.{length}
 use Rattle.ticket.specs.Ticket.{parse, numbersIn, lineRefusalOf}
@@ -59,6 +59,21 @@ withTicket t (save s card) = save s card
 withTicket t (close s) = close s
 withTicket t (startDock _ memory) = startDock t memory
 withTicket t (driveDock d memory step) = driveDock d memory step
+
+-- The calls that tell a ticket's edition: `parse`, which gives it as a number, and `line`, whose place and length depend on how wide a line is.
+abbrev pub tellsEdition : Call → Bool
+tellsEdition (parseTicket _) = true
+tellsEdition (planTicket _ _) = false
+tellsEdition (printPlan _ _) = false
+tellsEdition (checkPlan _ _) = false
+tellsEdition (runPlan _ _) = false
+tellsEdition (line _ _) = true
+tellsEdition (counts _) = false
+tellsEdition (newSaver _ _) = false
+tellsEdition (save _ _) = false
+tellsEdition (close _) = false
+tellsEdition (startDock _ _) = false
+tellsEdition (driveDock _ _ _) = false
 
 -- What it answers, and lent memory afterwards.
 pub data Result : Type 0 where

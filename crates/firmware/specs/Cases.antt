@@ -3,10 +3,10 @@
 -- Assumes nothing.
 use Prim.Native.Nat.{ℕ}
 use mathlib.Core.Bool.{Bool, true, false}
-use mathlib.Core.List.{List, [], _∷_}
+use mathlib.Core.List.{List, [], _∷_, _++_}
 use lib.ListN.{replicate}
 use Rattle.counting.specs.declared.Position.{Position}
-use Rattle.ticket.specs.Print.{ticketText}
+use Rattle.ticket.specs.Print.{headerText, ticketText}
 use Rattle.saver.specs.declared.Saver.{Saver}
 use Rattle.dock.specs.declared.Dock.{Dock}
 use Rattle.dock.specs.declared.Step.the-variants.{Read, End}
@@ -24,10 +24,14 @@ call (c gives r) = c
 abbrev pub expected : Case → Result
 expected (c gives r) = r
 
--- a ticket: edition, mode, cards, pool and frames as they stand in the header, and the cards of its lines
+-- a ticket: edition, mode, cards, pool and frames as they stand in the header, and the cards and seconds of its lines
+abbrev ticketWith : ℕ → ℕ → ℕ → ℕ → ℕ → List ℕ → List ℕ → List ℕ
+ticketWith edition mode cards pool frames list seconds =
+    ticketText (record { edition = edition; mode = mode; cards = cards; pool = pool; frames = frames }) list seconds
+
+-- one without seconds
 abbrev ticketOf : ℕ → ℕ → ℕ → ℕ → ℕ → List ℕ → List ℕ
-ticketOf edition mode cards pool frames list =
-    ticketText (record { edition = edition; mode = mode; cards = cards; pool = pool; frames = frames }) list
+ticketOf edition mode cards pool frames list = ticketWith edition mode cards pool frames list []
 
 -- document 01's example, list 0 0 1 with a pool of 2: read, save, save and keep
 abbrev read001 : List ℕ
@@ -38,6 +42,10 @@ save001 = ticketOf 1 1 2 2 3 (0 ∷ 0 ∷ 1 ∷ [])
 
 abbrev keep001 : List ℕ
 keep001 = ticketOf 1 2 2 2 3 (0 ∷ 0 ∷ 1 ∷ [])
+
+-- the read ticket in edition 02, with seconds 7, 7 and the highest
+abbrev timed001 : List ℕ
+timed001 = ticketWith 2 0 2 2 3 (0 ∷ 0 ∷ 1 ∷ []) (7 ∷ 7 ∷ 4294967295 ∷ [])
 
 abbrev position : ℕ → Position
 position i = record { 0 = i }
@@ -98,8 +106,9 @@ cases =
     -- printed: FF01, if there is room for it
     ∷ printPlan [] (9 ∷ 9 ∷ 9 ∷ 9 ∷ 9 ∷ 9 ∷ []) gives text 5 (70 ∷ 70 ∷ 48 ∷ 49 ∷ 10 ∷ 9 ∷ [])
     ∷ printPlan [] (9 ∷ 9 ∷ 9 ∷ 9 ∷ []) gives text 0 (9 ∷ 9 ∷ 9 ∷ 9 ∷ [])
-    -- 2: edition is not 01
-    ∷ parseTicket (ticketOf 2 0 2 2 0 []) gives ticket 2 0 0 0 0 0
+    -- 2: edition is neither 01 nor 02
+    ∷ parseTicket (ticketOf 0 0 2 2 0 []) gives ticket 2 0 0 0 0 0
+    ∷ parseTicket (ticketOf 3 0 2 2 0 []) gives ticket 2 0 0 0 0 0
     -- 3: mode is over 02
     ∷ parseTicket (ticketOf 1 3 2 2 0 []) gives ticket 3 0 0 0 0 0
     -- 4: cards not 1 to 32
@@ -112,11 +121,22 @@ cases =
     ∷ parseTicket (ticketOf 1 0 2 2 4097 []) gives ticket 6 0 0 0 0 0
     -- 7: a frame line is missing
     ∷ parseTicket (ticketOf 1 0 2 2 1 []) gives ticket 7 0 0 0 0 0
+    -- or has the digits of the other edition: the header decides
+    ∷ parseTicket (headerText (record { edition = 2; mode = 0; cards = 2; pool = 2; frames = 1 }) ++ (48 ∷ 48 ∷ 10 ∷ [])) gives ticket 7 0 0 0 0 0
+    ∷ parseTicket
+    (headerText (record { edition = 1; mode = 0; cards = 2; pool = 2; frames = 1 })
+    ++ (48 ∷ 48 ∷ 48 ∷ 48 ∷ 48 ∷ 48 ∷ 48 ∷ 48 ∷ 48 ∷ 48 ∷ 10 ∷ []))
+    gives ticket 7 0 0 0 0 0
     -- 8: a card number is not below cards
     ∷ parseTicket (ticketOf 1 0 2 2 1 (2 ∷ [])) gives ticket 8 0 0 0 0 0
     ∷ save (idle 2 2 0 0 false) 2 gives saved 8 0 nothing (idle 2 2 0 0 false)
+    -- 17, after 8 of the same line: a second is lower than that of the line before
+    ∷ parseTicket (ticketWith 2 0 2 2 2 (0 ∷ 1 ∷ []) (65536 ∷ 65535 ∷ [])) gives ticket 17 0 0 0 0 0
+    ∷ parseTicket (ticketWith 2 0 2 2 2 (0 ∷ 2 ∷ []) (65536 ∷ 65535 ∷ [])) gives ticket 8 0 0 0 0 0
+    ∷ planTicket (ticketWith 2 0 2 2 2 (0 ∷ 1 ∷ []) (1 ∷ 0 ∷ [])) (9 ∷ 9 ∷ []) gives plan 17 0 (9 ∷ 9 ∷ [])
     -- 9: bytes follow the last line
     ∷ parseTicket (ticketOf 1 0 2 2 0 (0 ∷ [])) gives ticket 9 0 0 0 0 0
+    ∷ parseTicket (ticketWith 2 0 2 2 0 (0 ∷ []) (0 ∷ [])) gives ticket 9 0 0 0 0 0
     -- 10: plan buffer, or memory for the dock, has fewer than L places
     ∷ planTicket read001 (9 ∷ 9 ∷ []) gives plan 10 0 (9 ∷ 9 ∷ [])
     ∷ startDock read001 (7 ∷ 7 ∷ []) gives dock 10 (emptyDock 0 0) (7 ∷ 7 ∷ [])
@@ -139,6 +159,11 @@ cases =
     ∷ planTicket read001 (9 ∷ 9 ∷ 9 ∷ 9 ∷ []) gives plan 0 2 (1 ∷ 2 ∷ 2 ∷ 9 ∷ [])
     ∷ line read001 1 gives part 18 2 0
     ∷ counts read001 gives cardCounts 0 (2 ∷ 1 ∷ replicate 30 0)
+    -- the same in edition 02, whose seconds may repeat
+    ∷ parseTicket timed001 gives ticket 0 2 0 2 2 3
+    ∷ planTicket timed001 (9 ∷ 9 ∷ 9 ∷ 9 ∷ []) gives plan 0 2 (1 ∷ 2 ∷ 2 ∷ 9 ∷ [])
+    ∷ line timed001 1 gives part 26 10 0
+    ∷ counts timed001 gives cardCounts 0 (2 ∷ 1 ∷ replicate 30 0)
     -- digits in either case: `01001f02eb0000`, `01001d01ca0000`; and g, which is none: `010002000g0000`
     ∷ parseTicket (48 ∷ 49 ∷ 48 ∷ 48 ∷ 49 ∷ 102 ∷ 48 ∷ 50 ∷ 101 ∷ 98 ∷ 48 ∷ 48 ∷ 48 ∷ 48 ∷ 10 ∷ []) gives ticket 0 1 0 31 747 0
     ∷ parseTicket (48 ∷ 49 ∷ 48 ∷ 48 ∷ 49 ∷ 100 ∷ 48 ∷ 49 ∷ 99 ∷ 97 ∷ 48 ∷ 48 ∷ 48 ∷ 48 ∷ 10 ∷ []) gives ticket 0 1 0 29 458 0

@@ -33,7 +33,7 @@ pub extern "C" fn dockplan_line(ticket: &[u8], p: Position) -> Part
         };
     }
     Part {
-        offset: ticket::line_start(p),
+        offset: ticket::line_start(ticket, p),
         length: n,
     }
 }

@@ -1,10 +1,10 @@
 // Which library this is, so that a header and an archive that do not belong together are found.
 ghost use mathlib.Core.Path.{_≡_};
 
-// The number that include/dockplan.h has as DOCKPLAN_VERSION: 101 for 1.1. It grows whenever a call is added or changed.
+// The number that include/dockplan.h has as DOCKPLAN_VERSION: 102 for 1.2. It grows whenever a call is added or changed.
 #[no_mangle]
 pub extern "C" fn dockplan_version() -> u32
-    ensures { λ r. ⌜ r ≡ 101 ⌝ }
+    ensures { λ r. ⌜ r ≡ 102 ⌝ }
 {
-    101
+    102
 }

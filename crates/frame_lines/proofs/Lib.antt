@@ -1,2 +1,6 @@
+pub mod Places
 pub mod Faults
+pub mod OneLine
+pub mod Judging
+pub mod WholePart
 pub mod Counting

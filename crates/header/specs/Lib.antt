@@ -1,3 +1,4 @@
 pub mod Limits
+pub mod Editions
 pub mod Heading
 pub mod Numbers

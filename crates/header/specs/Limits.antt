@@ -3,10 +3,6 @@
 use Prim.Native.Nat.{ℕ, _≤_, _<_}
 use mathlib.Core.Logic.{_⊎_}
 
--- the edition that is read
-abbrev pub edition1 : ℕ
-edition1 = 1
-
 -- "Modes: 00 read; 01 save; 02 save and keep."
 abbrev pub modeRead : ℕ
 modeRead = 0
@@ -25,7 +21,7 @@ maxCards = 32
 abbrev pub maxPool : ℕ
 maxPool = 1024
 
--- "frames L 0 to 4,096". A plan never has more cycles than frames, so cycles and positions fit in 16 bits; a ticket has at most 12,303 bytes.
+-- "frames L 0 to 4,096". A plan never has more cycles than frames, so cycles and positions fit in 16 bits.
 abbrev pub maxFrames : ℕ
 maxFrames = 4096
 

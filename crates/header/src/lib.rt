@@ -1,9 +1,10 @@
 // The header of a ticket: refusals 1 to 6.
 ghost use mathlib.Core.Path.{_≡_};
 ghost use Rattle.text.specs.Text.{digitValues};
-ghost use Rattle.header.specs.Heading.{withinLimits, heading};
+ghost use Rattle.header.specs.Heading.{withinLimits, judge, heading};
 ghost use Rattle.header.specs.Numbers.{numbersOf};
 
+pub mod editions;
 pub mod limits;
 
 // What stands in the header.
@@ -21,13 +22,10 @@ pub enum Answer {
     Refused(u8),
 }
 
-// Refusals 2 to 6.
+// Refusals 3 to 6.
 fn within_limits(h: Header) -> Answer
     ensures { λ r. ⌜ r ≡ withinLimits h ⌝ }
 {
-    if h.edition != limits::EDITION {
-        return Answer::Refused(2);
-    }
     if limits::MODE_SAVE_AND_KEEP < h.mode {
         return Answer::Refused(3);
     }
@@ -49,13 +47,23 @@ fn within_limits(h: Header) -> Answer
     Answer::Accepted(h)
 }
 
+// Refusals 2 to 6.
+fn judge(h: Header) -> Answer
+    ensures { λ r. ⌜ r ≡ judge h ⌝ }
+{
+    if editions::known(h.edition) {
+        return within_limits(h);
+    }
+    Answer::Refused(2)
+}
+
 // The same as `heading`, with the table of digits lent.
 fn read_heading(value: &[u8; 256], t: &[u8]) -> Answer
     requires { ⌜ now value ≡ digitValues ⌝ }
     ensures { λ r. ⌜ r ≡ heading (now (t .entry)) ⌝ }
 {
     if text::read::is_line(value, t, 0, 14) {
-        within_limits(Header {
+        judge(Header {
             edition: text::read::number(value, t, 0, 2) as u8,
             mode: text::read::number(value, t, 2, 2) as u8,
             cards: text::read::number(value, t, 4, 2) as u8,

@@ -1,7 +1,5 @@
 // The limits of a ticket. The definitions that the contracts use are in specs/Limits.antt, with the reason of each.
 
-pub const EDITION: u8 = 1;
-
 pub const MODE_READ: u8 = 0;
 
 pub const MODE_SAVE: u8 = 1;

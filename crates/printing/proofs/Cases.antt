@@ -5,8 +5,9 @@ use mathlib.Core.List.{map}
 use Rattle.schedule.specs.Greedy.{saveAndKeep, greedyWriting, lazyPrefetching}
 use Rattle.text.specs.Text.{digit, digits, number, isLine}
 use Rattle.text.specs.Hex.{digitOf, hex}
-use Rattle.header.specs.Heading.{headerOf, withinLimits, heading}
-use Rattle.frame_lines.specs.Lines.{cardAt, lineFault, linesFault, partFault}
+use Rattle.header.specs.Editions.{known, secondDigits}
+use Rattle.header.specs.Heading.{headerOf, withinLimits, judge, heading}
+use Rattle.frame_lines.specs.Lines.{cardAt, secondAt, secondBefore, lineFault, linesFault, partFault}
 use Rattle.ticket.specs.Ticket.{parse}
 use Rattle.printing.specs.Printed.{frameLines, planText, textOf}
 use Rattle.print_lines.specs.Lines.{refusalText}
@@ -14,5 +15,5 @@ use Rattle.printing.specs.Cases.{Case, cases}
 
 pub texts-hold : map (λ (c : Case). c .text) cases ≡ map (λ (c : Case). c .expected) cases
 unfolding cases textOf refusalText planText frameLines lazyPrefetching saveAndKeep greedyWriting digit digits number
-    isLine digitOf hex headerOf withinLimits heading cardAt lineFault linesFault partFault parse
+    isLine digitOf hex known secondDigits headerOf withinLimits judge heading cardAt secondAt secondBefore lineFault linesFault partFault parse
 texts-hold = refl

@@ -6,6 +6,7 @@ use mathlib.Core.List.{List, map}
 use native.Mathlib.Omega.{arith}
 use lib.ListN.{length, take}
 use Rattle.counting.specs.Count.{written}
+use Rattle.frame_lines.proofs.OneLine.{eight}
 use Rattle.ticket.proofs.Main as ticket
 use Rattle.printing.specs.Printed.{textOf, printed}
 use Rattle.print_lines.specs.Put.{bytesIn, bufferAfter}
@@ -16,7 +17,7 @@ use Rattle.printing.proofs.Short as short
 
 -- "looks at its first 65,536 bytes, which settle every ticket"
 pub front-settles : (t : List ℕ) → printed (take inputBytes t) ≡ printed t
-front-settles t = ap textOf (ticket.front-settles inputBytes t (omega arith))
+front-settles t = ap textOf (ticket.front-settles inputBytes t (omega (arith, eight)) .0)
 
 -- No text is longer than the buffer that the program lends.
 pub room-for-every-text : (t : List ℕ) → length (printed t) ≤ longestText

@@ -46,11 +46,31 @@ mixedText =
     48 ∷ 48 ∷ 48 ∷ 50 ∷ 48 ∷ 65 ∷ 48 ∷ 48 ∷ 48 ∷ 50 ∷ 10 ∷
     []
 
--- FF01 and FF10: an empty ticket, and how refusal 16 would be printed
+-- The first list in edition 02, captured in seconds 3600, 3600 and 3601: `02000200020003`, `0000000E10`, `0000000E10`, `0100000E11`. It prints
+-- what the first ticket does.
+abbrev timedTicket : List ℕ
+timedTicket =
+    48 ∷ 50 ∷ 48 ∷ 48 ∷ 48 ∷ 50 ∷ 48 ∷ 48 ∷ 48 ∷ 50 ∷ 48 ∷ 48 ∷ 48 ∷ 51 ∷ 10 ∷
+    48 ∷ 48 ∷ 48 ∷ 48 ∷ 48 ∷ 48 ∷ 48 ∷ 69 ∷ 49 ∷ 48 ∷ 10 ∷
+    48 ∷ 48 ∷ 48 ∷ 48 ∷ 48 ∷ 48 ∷ 48 ∷ 69 ∷ 49 ∷ 48 ∷ 10 ∷
+    48 ∷ 49 ∷ 48 ∷ 48 ∷ 48 ∷ 48 ∷ 48 ∷ 69 ∷ 49 ∷ 49 ∷ 10 ∷
+    []
+
+-- and two frames of which the second was captured earlier: `02000200020002`, `0000000001`, `0100000000`
+abbrev fallingTicket : List ℕ
+fallingTicket =
+    48 ∷ 50 ∷ 48 ∷ 48 ∷ 48 ∷ 50 ∷ 48 ∷ 48 ∷ 48 ∷ 50 ∷ 48 ∷ 48 ∷ 48 ∷ 50 ∷ 10 ∷
+    48 ∷ 48 ∷ 48 ∷ 48 ∷ 48 ∷ 48 ∷ 48 ∷ 48 ∷ 48 ∷ 49 ∷ 10 ∷
+    48 ∷ 49 ∷ 48 ∷ 48 ∷ 48 ∷ 48 ∷ 48 ∷ 48 ∷ 48 ∷ 48 ∷ 10 ∷
+    []
+
+-- FF01, FF11 and FF10: an empty ticket, a second that falls, and how refusal 16 would be printed
 unfoldable pub cases : List Case
 cases =
     record { text = printed firstTicket; expected = firstText } ∷
     record { text = printed mixedTicket; expected = mixedText } ∷
+    record { text = printed timedTicket; expected = firstText } ∷
     record { text = printed []; expected = 70 ∷ 70 ∷ 48 ∷ 49 ∷ 10 ∷ [] } ∷
+    record { text = printed fallingTicket; expected = 70 ∷ 70 ∷ 49 ∷ 49 ∷ 10 ∷ [] } ∷
     record { text = refusalText 16; expected = 70 ∷ 70 ∷ 49 ∷ 48 ∷ 10 ∷ [] } ∷
     []

@@ -74,6 +74,16 @@ below-of b (isNone d u) p = absurd (omega (arith, d, p))
 pub digit-below : (b : ℕ) → digit b < 255 → digit b < 16
 digit-below b = below-of b (kind b)
 
+-- a value below 10 has a byte from `0` to `9`
+low-of : (b : ℕ) → Kind b → digit b < 10 → (48 ≤ b) × (b ≤ 57) × (digit b ≡ b - 48)
+low-of b (isDecimal l h d u) p = (l, h, d)
+low-of b (isLetter l h d u) p = absurd (omega (arith, d, l, h, p))
+low-of b (isSmall l h d u) p = absurd (omega (arith, d, l, h, p))
+low-of b (isNone d u) p = absurd (omega (arith, d, p))
+
+pub low-digit : (b : ℕ) → digit b < 10 → (48 ≤ b) × (b ≤ 57) × (digit b ≡ b - 48)
+low-digit b = low-of b (kind b)
+
 -- a byte has the value that it has in upper case
 value-of-upper : (b : ℕ) → Kind b → digit (upper b) ≡ digit b
 value-of-upper b (isDecimal l h d u) = ap digit u

@@ -1,6 +1,6 @@
 -- A line, as a test and as what it says.
 -- Assumes nothing.
-use Prim.Native.Nat.{ℕ}
+use Prim.Native.Nat.{ℕ, _+_}
 use mathlib.Core.Path.{_≡_, _∙_}
 use mathlib.Core.Bool.{true, false}
 use mathlib.Core.List.{List}
@@ -21,6 +21,15 @@ module _ (s : List ℕ) (at n : ℕ) where
         inside = line-long s at n e;
         each-digit = λ i h. digit-at s at n i (line-digits s at n e) h;
         ends = line-end s at n e;
+      }
+
+  -- the rest of a line, after its first digits
+  pub line-later : (m : ℕ) → Line s at (m + n) → Line s (at + m) n
+  line-later m l =
+      record {
+        inside = omega (arith, l .inside);
+        each-digit = λ i h. let q : at + (m + i) ≡ at + m + i = omega arith in rw q at (l .each-digit (m + i) (omega arith));
+        ends = let q : at + (m + n) ≡ at + m + n = omega arith in rw q at (l .ends);
       }
 
   pub line-false : (Line s at n → ⊥) → isLine s at n ≡ false

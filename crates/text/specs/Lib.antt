@@ -1,3 +1,4 @@
 pub mod Text
+pub mod Wide
 pub mod UpperCase
 pub mod Hex

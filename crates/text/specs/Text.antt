@@ -1,4 +1,4 @@
--- Text: what a digit, a number and a line are (document 01, "The ticket, edition 1").
+-- Text: what a digit, a number and a line are (document 01, "The ticket, edition 1", and requests 2026-01 and 2026-02).
 -- Text is a list of bytes. A place past its end reads as byte 0, which is neither a digit nor the end byte.
 -- Assumes nothing.
 use Prim.Native.Nat.{ℕ, zero, suc, _+_, _-_, _*_, _<_}

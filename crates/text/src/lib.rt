@@ -4,6 +4,7 @@ ghost use lib.ListN.{getD};
 ghost use Rattle.text.specs.Text.{digit, digitValues};
 
 pub mod read;
+pub mod wide;
 pub mod write;
 
 // The byte that ends a line.

@@ -4,6 +4,8 @@ pub mod Again
 pub mod Written
 pub mod Answers
 pub mod Memory
+pub mod Seconds
+pub mod EachEdition
 pub mod Accepted
 pub mod Reader
 pub mod Passing

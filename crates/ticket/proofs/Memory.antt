@@ -31,8 +31,8 @@ module _ (t : List ℕ) where
     few-frames = rw (header-read t h e) (header-passes t h e .frames)
 
     -- what the frame lines, the slice from byte 15 on, are answered with
-    module _ {k : ℕ} (q : k ≡ partFault (take (length t - headerBytes) (drop headerBytes t)) (h .cards) (h .frames)) where
-      fault-is : k ≡ partFault (drop headerBytes t) (h .cards) (h .frames)
+    module _ {k : ℕ} (q : k ≡ partFault (h .edition) (take (length t - headerBytes) (drop headerBytes t)) (h .cards) (h .frames)) where
+      fault-is : k ≡ partFault (h .edition) (drop headerBytes t) (h .cards) (h .frames)
       fault-is = rw from-place at q
 
       pub part-refused : (k ≡ 0 → ⊥) → Refused k ≡ answerIn (parse t)
@@ -45,7 +45,8 @@ module _ (t : List ℕ) where
 
     -- what memory then holds
     pub part-into :
-        (memory : List ℕ) {after : List ℕ} → after ≡ cardsRead (take (length t - headerBytes) (drop headerBytes t)) (h .cards) (h .frames) memory
+        (memory : List ℕ) {after : List ℕ}
+        → after ≡ cardsRead (h .edition) (take (length t - headerBytes) (drop headerBytes t)) (h .cards) (h .frames) memory
         → after ≡ readInto t memory
     unfolding readInto
     part-into memory q = rw e (rw from-place at q)
@@ -61,14 +62,14 @@ into-part :
     → partInto x s memory ≡ cards ++ drop (h .frames) memory
 into-part (Refused k) s memory h cards e = let z : _≡_ {A = ℕ} 0 1 = cc in absurd (omega arith)
 into-part (Accepted g) s memory h cards e =
-    by-cases (eqb (partFault s (g .cards) (g .frames)) 0)
+    by-cases (eqb (partFault (g .edition) s (g .cards) (g .frames)) 0)
     (λ z.
-    let q : accepted g (tabulate (g .frames) (cardAt s)) ≡ accepted h cards = rw z at e in
+    let q : accepted g (tabulate (g .frames) (cardAt (g .edition) s)) ≡ accepted h cards = rw z at e in
     let g-is : g ≡ h = cc in
-    let cards-are : tabulate (g .frames) (cardAt s) ≡ cards = cc in
-    all-read s (g .cards) (g .frames) memory (eqb-true _ _ z) ∙ rw (cards-are, g-is))
+    let cards-are : tabulate (g .frames) (cardAt (g .edition) s) ≡ cards = cc in
+    all-read (g .edition) s (g .cards) (g .frames) memory (eqb-true _ _ z) ∙ rw (cards-are, g-is))
     (λ z.
-    let q : refused (partFault s (g .cards) (g .frames)) ≡ accepted h cards = rw z at e in
+    let q : refused (partFault (g .edition) s (g .cards) (g .frames)) ≡ accepted h cards = rw z at e in
     let w : _≡_ {A = ℕ} 0 1 = cc in
     absurd (omega arith))
 
@@ -79,12 +80,13 @@ long-part :
 unfolding cardsRead
 long-part (Refused k) s memory few = refl
 long-part (Accepted h) s memory few =
+    let n = linesPassing (h .edition) s (h .cards) (h .frames) in
     omega (
       arith,
-      length-append (tabulate (linesPassing s (h .cards) (h .frames)) (cardAt s)) (drop (linesPassing s (h .cards) (h .frames)) memory),
-      length-tabulate (linesPassing s (h .cards) (h .frames)) (cardAt s),
-      length-drop (linesPassing s (h .cards) (h .frames)) memory,
-      passing-few s (h .cards) (h .frames),
+      length-append (tabulate n (cardAt (h .edition) s)) (drop n memory),
+      length-tabulate n (cardAt (h .edition) s),
+      length-drop n memory,
+      passing-few (h .edition) s (h .cards) (h .frames),
       few h refl,
     )
 

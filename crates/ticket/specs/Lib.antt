@@ -1,4 +1,5 @@
 pub mod Ticket
+pub mod Seconds
 pub mod Grounds
 pub mod Print
 pub mod Part

@@ -1,4 +1,5 @@
--- The ticket (document 01, "The ticket, edition 1" and "Grounds for turning a ticket or call down"): what a text is read as.
+-- The ticket (document 01, "The ticket, edition 1" and "Grounds for turning a ticket or call down", and request 2026-02): what a text is read
+-- as. The edition in the header decides how the frame lines are read.
 --
 -- Edge cases: a ticket with no frames is its header alone; a text cut short is refused by 1 in its header and by 7 in its lines.
 -- Assumes nothing.
@@ -8,13 +9,14 @@ use mathlib.Core.List.{List, [], _++_}
 use lib.Dec.{eqb, ltb}
 use lib.ListN.{length, take, drop, replicate}
 use Rattle.counting.specs.Count.{tabulate}
-use Rattle.header.specs.Heading.{headerBytes, heading}
+use Rattle.header.specs.Editions.{edition2, lineDigits, lineBytes}
+use Rattle.header.specs.Heading.{headerBytes, editionOf, heading}
 use Rattle.header.specs.Numbers.{Numbers, acceptedAs, refusedBy}
 use Rattle.header.specs.Limits.{maxCards, maxFrames}
 use Rattle.header.specs.declared.Header.{Header}
 use Rattle.header.specs.declared.Answer.{Answer}
 use Rattle.header.specs.declared.Answer.the-variants.{Accepted, Refused}
-use Rattle.frame_lines.specs.Lines.{lineDigits, lineBytes, cardAt, partFault, cardsRead}
+use Rattle.frame_lines.specs.Lines.{cardAt, partFault, cardsRead}
 use Rattle.frame_lines.specs.Tally.{countsUpTo}
 use Rattle.ticket.specs.declared.Ticket.{Ticket}
 
@@ -26,11 +28,11 @@ pub data Parsed : Type 0 where
 abbrev pub parsePart : Answer → List ℕ → Parsed
 parsePart (Refused k) s = refused k
 parsePart (Accepted h) s =
-    cond (eqb (partFault s (h .cards) (h .frames)) 0)
-    (accepted h (tabulate (h .frames) (cardAt s)))
-    (refused (partFault s (h .cards) (h .frames)))
+    cond (eqb (partFault (h .edition) s (h .cards) (h .frames)) 0)
+    (accepted h (tabulate (h .frames) (cardAt (h .edition) s)))
+    (refused (partFault (h .edition) s (h .cards) (h .frames)))
 
--- "Tickets: 1 to 6, then line by line 7 before 8, then 9"
+-- "Tickets: 1 to 6, then line by line 7 before 8, then 9", with 17 "after 7 and 8 of the same line"
 unfoldable pub parse : List ℕ → Parsed
 parse t = parsePart (heading t) (drop headerBytes t)
 
@@ -43,7 +45,7 @@ answerIn (refused k) = Refused k
 -- refused header leaves it as it was.
 abbrev pub partInto : Answer → List ℕ → List ℕ → List ℕ
 partInto (Refused k) s memory = memory
-partInto (Accepted h) s memory = cardsRead s (h .cards) (h .frames) memory
+partInto (Accepted h) s memory = cardsRead (h .edition) s (h .cards) (h .frames) memory
 
 unfoldable pub readInto : List ℕ → List ℕ → List ℕ
 readInto t memory = partInto (heading t) (drop headerBytes t) memory
@@ -72,13 +74,17 @@ abbrev pub lineRefusalOf : Parsed → ℕ → ℕ
 lineRefusalOf (accepted h cards) p = cond (ltb p (length cards)) 0 16
 lineRefusalOf (refused k) p = k
 
+-- the longest ticket: its header, and the widest line for each of the most frames
+abbrev pub longestTicket : ℕ
+longestTicket = headerBytes + lineBytes edition2 * maxFrames
+
 -- the byte of a ticket at which the line of frame p begins
-abbrev pub lineStart : ℕ → ℕ
-lineStart p = headerBytes + lineBytes * p
+abbrev pub lineStart : List ℕ → ℕ → ℕ
+lineStart t p = headerBytes + lineBytes (editionOf t) * p
 
 -- the bytes of that line, without its end byte
 abbrev pub lineIn : List ℕ → ℕ → List ℕ
-lineIn t p = take lineDigits (drop (lineStart p) t)
+lineIn t p = take (lineDigits (editionOf t)) (drop (lineStart t p) t)
 
 -- "that frame's line as a part of the caller's own ticket, without its end byte"; empty with a refusal
 unfoldable pub lineOf : List ℕ → ℕ → List ℕ
@@ -86,7 +92,7 @@ lineOf t p = cond (eqb (lineRefusalOf (parse t) p) 0) (lineIn t p) []
 
 -- and the byte of the ticket at which this part begins; the empty part stands at the ticket's first byte
 unfoldable pub linePlace : List ℕ → ℕ → ℕ
-linePlace t p = cond (eqb (lineRefusalOf (parse t) p) 0) (lineStart p) 0
+linePlace t p = cond (eqb (lineRefusalOf (parse t) p) 0) (lineStart t p) 0
 
 -- "A count of frames for each of the 32 cards"; beside a refusal all are 0
 abbrev pub countsOf : Parsed → List ℕ

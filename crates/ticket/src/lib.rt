@@ -2,15 +2,18 @@
 ghost use mathlib.Core.Path.{_≡_};
 ghost use Prim.Native.Nat.{_≤_};
 ghost use lib.ListN.{length};
-ghost use Rattle.header.specs.Heading.{heading};
+ghost use Rattle.header.specs.Editions.{lineDigits};
+ghost use Rattle.header.specs.Heading.{editionOf, heading};
 ghost use Rattle.header.specs.Numbers.{numbersOf};
 ghost use Rattle.header.specs.Limits.{maxFrames};
 ghost use Rattle.ticket.specs.Grounds.{ReadAs};
 ghost use Rattle.ticket.specs.Part.{address};
+ghost use Rattle.ticket.specs.Seconds.{secondsOf, secondOf};
 ghost use Rattle.ticket.specs.Ticket.{parse, answerIn, readInto, ticketOf, numbersIn, refusalOf, lineRefusalOf, lineStart, lineOf, linePlace, countsOf};
 use counting::Position;
 use header::Answer;
 use header::Header;
+use header::editions;
 use header::limits;
 
 // A ticket that was read. The card of frame i stands at place i; places past the last frame are 0, and beside a refusal all are.
@@ -25,7 +28,7 @@ fn read_part(t: &[u8], h: Header, card: &mut [u8]) -> Answer
     ensures { λ r. ⌜ (r ≡ answerIn (parse (now (t .entry)))) × (now (card .exit) ≡ readInto (now (t .entry)) (now (card .entry))) ⌝ }
 {
     let value = text::digit_values();
-    let number = frame_lines::read_lines(&value, &t[15..], h.cards, h.frames, card);
+    let number = frame_lines::read_lines(&value, &t[15..], h.edition, h.cards, h.frames, card);
     if number != 0 {
         return Answer::Refused(number);
     }
@@ -98,14 +101,22 @@ pub fn line_refusal(t: &[u8], p: Position) -> u8
     }
 }
 
-// The byte of a ticket at which the line of the frame at a position begins.
-pub fn line_start(p: Position) -> usize
-    ensures { λ r. ⌜ r ≡ lineStart (p .0) ⌝ }
+// The digits of a line, by the edition that stands at the front of a ticket.
+pub fn line_digits(t: &[u8]) -> usize
+    ensures { λ r. ⌜ r ≡ lineDigits (editionOf (now (t .entry))) ⌝ }
 {
-    15 + 3 * (p.0 as usize)
+    editions::line_digits(editions::low_edition(t))
 }
 
-// The line of the frame at a position: the two digits of its card, a part of the caller's ticket. Empty with a refusal.
+// The byte of a ticket at which the line of the frame at a position begins.
+pub fn line_start(t: &[u8], p: Position) -> usize
+    ensures { λ r. ⌜ r ≡ lineStart (now (t .entry)) (p .0) ⌝ }
+{
+    15 + (line_digits(t) + 1) * (p.0 as usize)
+}
+
+// The line of the frame at a position: the digits of its card and, in edition 02, of its second, a part of the caller's ticket. Empty with a
+// refusal.
 pub fn line(t: &[u8], p: Position) -> &[u8]
     ensures line { λ r. ⌜ now r ≡ lineOf (now (t .entry)) (p .0) ⌝ }
     ensures stands { λ r. ⌜ r .ptr ≡ address (t .entry .ptr) (linePlace (now (t .entry)) (p .0)) ⌝ }
@@ -114,8 +125,9 @@ pub fn line(t: &[u8], p: Position) -> &[u8]
     if number != 0 {
         return &t[0..0];
     }
-    let at = line_start(p);
-    &t[at..at + 2]
+    let at = line_start(t, p);
+    let digits = line_digits(t);
+    &t[at..at + digits]
 }
 
 // How many frames each of the 32 cards has; all 0 with a refusal.
@@ -127,5 +139,29 @@ pub fn counts(t: &[u8]) -> [u16; limits::CARDS]
     match answer {
         Answer::Refused(_) => [0u16; limits::CARDS],
         Answer::Accepted(h) => frame_lines::tally::tally(&card, h.frames),
+    }
+}
+
+// The second at a position of a ticket that is accepted.
+fn second_in(t: &[u8], h: Header, p: Position) -> u32
+    requires { ⌜ answerIn (parse (now t)) ≡ Answer.Accepted h ⌝ }
+    ensures { λ r. ⌜ r ≡ secondOf (secondsOf (now (t .entry))) (p .0) ⌝ }
+{
+    if p.0 < h.frames {
+        let value = text::digit_values();
+        return frame_lines::second(&value, &t[15..], h.edition, p.0 as usize);
+    }
+    0
+}
+
+// The capture second of the frame at a position; 0 where there is none: in edition 01, past the last frame, and with a refusal.
+pub fn second(t: &[u8], p: Position) -> u32
+    ensures { λ r. ⌜ r ≡ secondOf (secondsOf (now (t .entry))) (p .0) ⌝ }
+{
+    let mut card = [0u8; limits::FRAMES];
+    let answer = read(t, &mut card);
+    match answer {
+        Answer::Refused(_) => 0,
+        Answer::Accepted(h) => second_in(t, h, p),
     }
 }

@@ -4,12 +4,13 @@ use Prim.Native.Nat.{ℕ, _+_, _-_, _≤_, _<_}
 use mathlib.Core.Bool.{true, false}
 use mathlib.Core.Path.{_≡_, _∙_}
 use mathlib.Core.List.{List, []}
-use lib.Dec.{ltb, leb}
+use lib.Dec.{ltb}
 use lib.ListN.{length, take, drop}
-use borrow.Author.Tests.{ne-eqb, lt-ltb, le-ltb, le-leb, ltb-true, leb-true}
+use borrow.Author.Tests.{ne-eqb, lt-ltb, le-ltb, ltb-true}
 use Rattle.counting.proofs.Bits.{and-left, and-right}
 use Rattle.header.specs.Limits.{maxFrames}
-use Rattle.frame_lines.specs.Lines.{lineBytes, lineDigits}
+use Rattle.header.specs.Editions.{lineDigits}
+use Rattle.header.specs.Heading.{editionOf}
 use Rattle.ticket.specs.Ticket.{parse, refusalOf, lineStart}
 use Rattle.ticket.proofs.Answers.{cut-line}
 use Rattle.walker.specs.Walk.{opened, hasLine, lineAt, placeAt, nextAt}
@@ -28,31 +29,33 @@ module _ (bytes : List ℕ) (p : ℕ) where
   unfolding hasLine
   past-limit l = rw (le-ltb p maxFrames l)
 
-  pub in-limit : {at : ℕ} → p < maxFrames → at ≡ lineStart p → leb (at + lineBytes) (length bytes) ≡ hasLine bytes p
+  pub in-limit :
+      {at d : ℕ} → p < maxFrames → at ≡ lineStart bytes p → d ≡ lineDigits (editionOf bytes) → ltb (at + d) (length bytes) ≡ hasLine bytes p
   unfolding hasLine
-  in-limit l a = rw (lt-ltb p maxFrames l, a)
+  in-limit l a q = rw (lt-ltb p maxFrames l, a, q)
 
-  pub room-has : p < maxFrames → lineStart p + lineBytes ≤ length bytes → hasLine bytes p ≡ true
+  pub room-has : p < maxFrames → lineStart bytes p + lineDigits (editionOf bytes) < length bytes → hasLine bytes p ≡ true
   unfolding hasLine
-  room-has l r = rw (lt-ltb p maxFrames l, le-leb (lineStart p + lineBytes) (length bytes) r)
+  room-has l r = rw (lt-ltb p maxFrames l, lt-ltb (lineStart bytes p + lineDigits (editionOf bytes)) (length bytes) r)
 
   module _ (e : hasLine bytes p ≡ true) where
     below : p < maxFrames
     unfolding hasLine
     below = ltb-true _ _ (and-left _ _ e)
 
-    inside : lineStart p + lineBytes ≤ length bytes
+    inside : lineStart bytes p + lineDigits (editionOf bytes) < length bytes
     unfolding hasLine
-    inside = leb-true _ _ (and-right (ltb p maxFrames) _ e)
+    inside = ltb-true _ _ (and-right (ltb p maxFrames) _ e)
 
-    pub has-room : (p < maxFrames) × (lineStart p + lineBytes ≤ length bytes)
+    pub has-room : (p < maxFrames) × (lineStart bytes p + lineDigits (editionOf bytes) < length bytes)
     has-room = (below, inside)
 
-    pub the-line : {at : ℕ} → at ≡ lineStart p → take (at + lineDigits - at) (drop at bytes) ≡ lineAt bytes p
+    pub the-line :
+        {at d : ℕ} → at ≡ lineStart bytes p → d ≡ lineDigits (editionOf bytes) → take (at + d - at) (drop at bytes) ≡ lineAt bytes p
     unfolding lineAt
-    the-line a = cut-line bytes p a ∙ rw e
+    the-line a q = cut-line bytes p a q ∙ rw e
 
-    pub its-place : lineStart p ≡ placeAt bytes p
+    pub its-place : lineStart bytes p ≡ placeAt bytes p
     unfolding placeAt
     its-place = rw e
 

@@ -10,8 +10,9 @@ use lib.ListN.{length, replicate, replicate-append-replicate}
 use borrow.Author.Tests.{lt-ltb, le-ltb}
 use Rattle.header.specs.declared.Header.{Header}
 use Rattle.counting.specs.declared.Position.{Position}
-use Rattle.frame_lines.specs.Lines.{lineDigits}
+use Rattle.header.specs.Editions.{lineDigits}
 use Rattle.ticket.specs.Ticket.{accepted, refused, parse, lineOf, linePlace}
+use Rattle.ticket.proofs.Accepted.{its-edition}
 use Rattle.ticket.proofs.Answers.{no-line, line-length}
 use Rattle.walker.specs.Walk.{end, gives, givesFrom, movedTo, after, walk, WalksOn, readerLines}
 use Rattle.walker.specs.declared.Walker.{Walker}
@@ -28,10 +29,11 @@ lines-end t m none (suc n) =
     ∙ ap (λ (x : List (List ℕ)). readerLines t m ++ x)
     (replicate-append-replicate n 1 end ∙ ap (λ (k : ℕ). replicate k end) (let q : n + 1 ≡ suc n = omega arith in q))
 
--- With an accepted ticket the first step that gives the end comes after the last line: every line has its 2 digits.
+-- With an accepted ticket the first step that gives the end comes after the last line: every line has its digits, 2 or 10.
 pub line-not-end :
-    (t : List ℕ) (h : Header) (cards : List ℕ) → parse t ≡ accepted h cards → (p : ℕ) → p < length cards → length (lineOf t p) ≡ lineDigits
-line-not-end t h cards e p l = line-length t p (rw (e, lt-ltb p (length cards) l) refl)
+    (t : List ℕ) (h : Header) (cards : List ℕ) → parse t ≡ accepted h cards → (p : ℕ) → p < length cards
+    → length (lineOf t p) ≡ lineDigits (h .edition)
+line-not-end t h cards e p l = line-length t p (rw (e, lt-ltb p (length cards) l) refl) ∙ ap lineDigits (sym (its-edition t h cards e))
 
 -- A walker that is set at another position is on the same ticket.
 pub at-walks : (t : List ℕ) (p : ℕ) (w : Walker) (q : Position) → WalksOn t p w → WalksOn t (q .0) (movedTo w q)

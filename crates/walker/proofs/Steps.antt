@@ -6,7 +6,10 @@ use mathlib.Core.Path.{_≡_, refl, sym, ap, _∙_}
 use mathlib.Core.List.{List}
 use mathlib.Core.Logic.{_⊎_, inl, inr}
 use native.Mathlib.Omega.{arith}
+use native.Mathlib.Nat.{mul-le-mul-left}
 use Rattle.counting.proofs.Bits.{by-cases}
+use Rattle.header.specs.Editions.{lineBytes}
+use Rattle.header.specs.Heading.{editionOf}
 use Rattle.walker.specs.Walk.{hasLine, end, lineAt, placeAt, nextAt, gives, givesFrom, after}
 use Rattle.walker.proofs.Bytes.{has-room, room-has, no-line, no-place, moves-on, stays}
 use Rattle.walker.specs.declared.Walker.{Walker}
@@ -15,7 +18,10 @@ use Rattle.walker.specs.declared.Walker.{Walker}
 none-later : (bytes : List ℕ) (p q : ℕ) → p ≤ q → hasLine bytes p ≡ false → hasLine bytes q ≡ false
 none-later bytes p q l n =
     by-cases (hasLine bytes q)
-    (λ y. let r = has-room bytes q y in absurd (true≢false (sym (room-has bytes p (omega (arith, r .0)) (omega (arith, r .1))) ∙ n)))
+    (λ y.
+    let r = has-room bytes q y in
+    let m = mul-le-mul-left {m = p} {n = q} (lineBytes (editionOf bytes)) l in
+    absurd (true≢false (sym (room-has bytes p (omega (arith, r .0)) (omega (arith, r .1, m))) ∙ n)))
     (λ m. m)
 
 module _ (w : Walker) where

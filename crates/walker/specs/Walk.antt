@@ -8,10 +8,11 @@ use Prim.Native.Nat.{ℕ, zero, suc, _+_}
 use mathlib.Core.Bool.{Bool, _&&_, cond}
 use mathlib.Core.Path.{_≡_}
 use mathlib.Core.List.{List, [], _∷_, _++_}
-use lib.Dec.{eqb, ltb, leb}
+use lib.Dec.{eqb, ltb}
 use lib.ListN.{length}
+use Rattle.header.specs.Editions.{lineDigits}
+use Rattle.header.specs.Heading.{editionOf}
 use Rattle.header.specs.Limits.{maxFrames}
-use Rattle.frame_lines.specs.Lines.{lineBytes}
 use Rattle.ticket.specs.Ticket.{parse, refusalOf, lineStart, lineIn, lineOf}
 use Rattle.counting.specs.declared.Position.{Position}
 use Rattle.walker.specs.declared.Walker.{Walker}
@@ -24,10 +25,10 @@ opened t = cond (eqb (refusalOf (parse t)) 0) t []
 abbrev pub end : List ℕ
 end = []
 
--- The line at a position of such bytes. No ticket has more lines than the limit.
+-- The line at a position of such bytes, as wide as their edition says. No ticket has more lines than the limit.
 module _ (bytes : List ℕ) (p : ℕ) where
   unfoldable pub hasLine : Bool
-  hasLine = ltb p maxFrames && leb (lineStart p + lineBytes) (length bytes)
+  hasLine = ltb p maxFrames && ltb (lineStart bytes p + lineDigits (editionOf bytes)) (length bytes)
 
   -- the line, or the end
   unfoldable pub lineAt : List ℕ
@@ -35,7 +36,7 @@ module _ (bytes : List ℕ) (p : ℕ) where
 
   -- the byte at which this part begins; the empty part stands at the first byte
   unfoldable pub placeAt : ℕ
-  placeAt = cond hasLine (lineStart p) 0
+  placeAt = cond hasLine (lineStart bytes p) 0
 
   -- the position that is next after it; at the end it stays
   unfoldable pub nextAt : ℕ

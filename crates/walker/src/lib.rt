@@ -37,7 +37,7 @@ fn has_line(bytes: &[u8], p: Position) -> bool
     if limits::MAX_FRAMES <= p.0 {
         return false;
     }
-    ticket::line_start(p) + 3 <= bytes.len()
+    ticket::line_start(bytes, p) + ticket::line_digits(bytes) < bytes.len()
 }
 
 // That line, empty where there is none.
@@ -46,8 +46,9 @@ pub fn line_at(bytes: &[u8], p: Position) -> &[u8]
         × (r .ptr ≡ address (bytes .entry .ptr) (placeAt (now (bytes .entry)) (p .0))) ⌝ }
 {
     if has_line(bytes, p) {
-        let at = ticket::line_start(p);
-        return &bytes[at..at + 2];
+        let at = ticket::line_start(bytes, p);
+        let digits = ticket::line_digits(bytes);
+        return &bytes[at..at + digits];
     }
     &bytes[0..0]
 }

@@ -1,7 +1,10 @@
 -- `walker::line_at` meets its contract.
 -- Assumes nothing.
 use mathlib.Core.Path.{sym, _∙_}
+use Prim.Native.Nat.{_+_, _<_}
 use native.Mathlib.Omega.{arith}
+use denote.Ref.{now}
+use lib.ListN.{length}
 use Rattle.ticket.proofs.Answers.{stands}
 use Rattle.walker.proofs.Bytes.{has-room, the-line, its-place, no-line, no-place}
 use borrow.Author.Needs.{needs}
@@ -14,8 +17,19 @@ has-line-requires c κs = search needs
 line-start-requires : tie.Need-line-start-requires
 line-start-requires c κs = search needs
 
+line-digits-requires : tie.Need-line-digits-requires
+line-digits-requires c κs = search needs
+
+-- the line lies within the bytes
+inside :
+    (c : tie.After-line-digits)
+    → c .before .line-start .result + c .line-digits .result < length (now (c .before .before .before .before .before .args .bytes))
+inside c =
+    let e = sym (c .before .before .before .has-line .ensures) ∙ c .before .before .if1 .taken in
+    omega (arith, c .before .line-start .ensures, c .line-digits .ensures, has-room _ _ e .1)
+
 add-result : tie.Need-add-result
-add-result c = search needs
+add-result c = omega (arith, inside c)
 
 sub-result : tie.Need-sub-result
 sub-result c = search needs
@@ -24,15 +38,13 @@ part-result-start : tie.Need-part-result-start
 part-result-start c = search needs
 
 part-result-end : tie.Need-part-result-end
-part-result-end c =
-    let e = sym (c .before .before .has-line .ensures) ∙ c .before .if1 .taken in
-    omega (arith, c .line-start .ensures, has-room _ _ e .1)
+part-result-end c = omega (arith, inside c)
 
 returns : tie.Need-returns
 returns c =
-    let e = sym (c .before .before .before .has-line .ensures) ∙ c .before .before .if1 .taken in
-    let a = c .before .line-start .ensures in
-    (the-line _ _ e a, stands _ (a ∙ its-place _ _ e))
+    let e = sym (c .before .before .before .before .has-line .ensures) ∙ c .before .before .before .if1 .taken in
+    let a = c .before .before .line-start .ensures in
+    (the-line _ _ e a (c .before .line-digits .ensures), stands _ (a ∙ its-place _ _ e))
 
 sub-result-2 : tie.Need-sub-result-2
 sub-result-2 c = search needs
@@ -54,6 +66,7 @@ line-at-spec =
     (tie.spec
     has-line-requires
     line-start-requires
+    line-digits-requires
     add-result
     sub-result
     part-result-start

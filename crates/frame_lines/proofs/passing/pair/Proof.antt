@@ -1,9 +1,9 @@
--- `frame_lines::pair` meets its contract.
+-- `frame_lines::passing::pair` meets its contract.
 -- Assumes nothing.
 use native.Mathlib.Omega.{arith}
 use borrow.Author.Needs.{needs}
-use Rattle.frame_lines.proofs.pair.Statement.{statement}
-use Rattle.frame_lines.proofs.pair.Tie as tie
+use Rattle.frame_lines.proofs.passing.pair.Statement.{statement}
+use Rattle.frame_lines.proofs.passing.pair.Tie as tie
 
 digit-requires : tie.Need-digit-requires
 digit-requires c κs = search needs
