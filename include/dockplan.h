@@ -20,23 +20,25 @@
  *   - DOCKPLAN_STACK_.. is the stack that the call uses, in bytes, as measured on x86-64: all that lies below
  *     its return address. Results of more than 16 bytes and the saver's record stand in the caller's memory.
  *
- * A ticket is text: a header of 14 digits and a line of 2 digits for each frame (docs/FORMAT.md). Digits are
- * hexadecimal, in either case; tickets with the same values get the same answers. Any bytes may be handed in as a
- * ticket. L is the number of its frames, T the number of a plan's cycles. The paper is D. A. Hutchinson, P. Sanders
- * and J. S. Vitter, "Duality between prefetching and queued writing with parallel disks".
+ * A ticket is text: a header of 14 digits and a line for each frame (docs/FORMAT.md). The edition in the header says
+ * what a line has: in edition 01 the 2 digits of the frame's card, in edition 02 these and the 8 digits of the second
+ * in which it was captured. Seconds may repeat but not fall. They have no say in a plan, its text, a check, a run or
+ * the counts. Digits are hexadecimal, in either case; tickets with the same values get the same answers. Any bytes
+ * may be handed in as a ticket. L is the number of its frames, T the number of a plan's cycles. The paper is D. A.
+ * Hutchinson, P. Sanders and J. S. Vitter, "Duality between prefetching and queued writing with parallel disks".
  *
- * Refusals, in the order in which they are tried: 1 to 6, then line by line 7 before 8, then 9; after that 10, or
- * 12 before 11, or 16. A saver's are given with its calls.
+ * Refusals, in the order in which they are tried: 1 to 6, then line by line 7 before 8 before 17, then 9, which are
+ * the ticket's own; after that 10, or 12 before 11, or 16. A saver's are given with its calls.
  *
  *    1  the first 15 bytes are not 14 digits and an end byte     9  bytes follow the last line
- *    2  edition is not 01                                       10  the plan buffer has fewer than L places
+ *    2  edition is neither 01 nor 02                            10  the plan buffer has fewer than L places
  *    3  mode is over 02                                         11  a plan has not exactly L cycles
  *    4  cards not 1 to 32                                       12  the checker is given mode 02
  *    5  pool not 1 to 1,024                                     13  the saver has taken 4,096 frames
  *    6  frames over 4,096                                       14  a closing cycle with an empty pool
- *    7  a frame line is missing or is not 2 digits              15  a save after closing has begun
- *       and an end byte                                         16  a line is wanted at a position not below L
- *    8  a card number is not below cards
+ *    7  a frame line is missing or is not the digits of         15  a save after closing has begun
+ *       the edition, 2 or 10, and an end byte                   16  a line is wanted at a position not below L
+ *    8  a card number is not below cards                        17  a second is lower than that of the line before
  */
 #ifndef DOCKPLAN_H
 #define DOCKPLAN_H
@@ -49,18 +51,18 @@
 extern "C" {
 #endif
 
-/* The version of this header: 101 for 1.1. It grows whenever a call is added or changed. */
-#define DOCKPLAN_VERSION 101
+/* The version of this header: 102 for 1.2. It grows whenever a call is added or changed. */
+#define DOCKPLAN_VERSION 102
 
 /* The version of the archive. Header and archive belong together exactly when this is DOCKPLAN_VERSION. */
 uint32_t dockplan_version(void);
 #define DOCKPLAN_STACK_VERSION 0
 
-/* The limits of a ticket. */
+/* The limits of a ticket. The longest one is of edition 02. */
 #define DOCKPLAN_MAX_CARDS 32
 #define DOCKPLAN_MAX_POOL 1024
 #define DOCKPLAN_MAX_FRAMES 4096
-#define DOCKPLAN_MAX_TICKET_BYTES 12303
+#define DOCKPLAN_MAX_TICKET_BYTES 45071
 /* The bytes of the longest printed plan. */
 #define DOCKPLAN_MAX_PRINTED_BYTES 45061
 
@@ -82,7 +84,7 @@ typedef struct {
 
 /* ---- The ticket ---------------------------------------------------------------------------------------------- */
 
-/* What the header of a ticket says; frames is L. */
+/* What the header of a ticket says; edition is 1 or 2, and frames is L. */
 typedef struct {
     uint8_t refusal;
     uint8_t edition;
@@ -92,9 +94,9 @@ typedef struct {
     uint16_t frames;
 } dockplan_ticket_answer;
 
-/* Reads a whole ticket, its lines too, and answers what its header says. Refusals 1 to 9. */
+/* Reads a whole ticket, its lines too, and answers what its header says. Refusals 1 to 9 and 17. */
 dockplan_ticket_answer dockplan_parse(const uint8_t *ticket, size_t bytes);
-#define DOCKPLAN_STACK_PARSE 4496
+#define DOCKPLAN_STACK_PARSE 6608
 
 /* A part of the caller's ticket: `length` bytes from byte `offset` on. */
 typedef struct {
@@ -102,14 +104,16 @@ typedef struct {
     size_t length;
 } dockplan_part;
 
-/* The line of the frame at a position: the 2 digits of its card as they stand there, without the end byte. With a
- * refusal (1 to 9, then 16) offset and length are 0; the number is dockplan_line_refusal's. */
+/* The line of the frame at a position as it stands there: the 2 digits of its card and, in edition 02, the 8 digits
+ * of its second, without the end byte. With a refusal (1 to 9 and 17, then 16) offset and length are 0; the number is
+ * dockplan_line_refusal's. */
 dockplan_part dockplan_line(const uint8_t *ticket, size_t bytes, dockplan_position position);
-#define DOCKPLAN_STACK_LINE 4496
+#define DOCKPLAN_STACK_LINE 6624
 
-/* The number that goes with dockplan_line: 0, the ticket's own refusal (1 to 9), or 16 for a position not below L. */
+/* The number that goes with dockplan_line: 0, the ticket's own refusal (1 to 9 and 17), or 16 for a position not
+ * below L. */
 uint8_t dockplan_line_refusal(const uint8_t *ticket, size_t bytes, dockplan_position position);
-#define DOCKPLAN_STACK_LINE_REFUSAL 4496
+#define DOCKPLAN_STACK_LINE_REFUSAL 6608
 
 /* How many frames each of the 32 cards has. */
 typedef struct {
@@ -117,9 +121,9 @@ typedef struct {
     uint16_t frames[DOCKPLAN_MAX_CARDS];
 } dockplan_counts_answer;
 
-/* Counts the frames of each card. Refusals 1 to 9. */
+/* Counts the frames of each card. Refusals 1 to 9 and 17. */
 dockplan_counts_answer dockplan_counts(const uint8_t *ticket, size_t bytes);
-#define DOCKPLAN_STACK_COUNTS 4592
+#define DOCKPLAN_STACK_COUNTS 6704
 
 /* ---- The plan ------------------------------------------------------------------------------------------------ */
 
@@ -131,16 +135,16 @@ typedef struct {
 
 /* Plans a ticket. The read plan is lazy prefetching: no way of driving the dock needs fewer than its T cycles. The
  * save plan is greedyWriting: no correct schedule has fewer. The first L places of the plan get each frame's cycle
- * (0 for a frame that save and keep leaves in the pool), later places keep their content. Refusals 1 to 9, then 10
- * where `places` is below L. L is dockplan_parse's, and DOCKPLAN_MAX_FRAMES places are always enough. */
+ * (0 for a frame that save and keep leaves in the pool), later places keep their content. Refusals 1 to 9 and 17,
+ * then 10 where `places` is below L. L is dockplan_parse's, and DOCKPLAN_MAX_FRAMES places are always enough. */
 dockplan_plan_answer dockplan_plan(const uint8_t *ticket, size_t bytes, uint16_t *plan, size_t places);
 #define DOCKPLAN_STACK_PLAN 12560
 
 /* Prints the plan of a ticket as text: T in 4 digits, then for each frame its position (4), card (2) and cycle (4),
- * in upper-case hexadecimal, each line with its end byte. A ticket that is refused (1 to 9) prints one line, FF and
- * the number in 2 digits. Answers how many bytes the text has; it stands at the front of the buffer, and later
- * places keep their content. Where the whole text has no room, the answer is 0 and nothing changes;
- * DOCKPLAN_MAX_PRINTED_BYTES places are always enough. */
+ * in upper-case hexadecimal, each line with its end byte. A ticket that is refused (1 to 9 and 17) prints one line,
+ * FF and the number in 2 digits, which for 17 are 11. Answers how many bytes the text has; it stands at the front of
+ * the buffer, and later places keep their content. Where the whole text has no room, the answer is 0 and nothing
+ * changes; DOCKPLAN_MAX_PRINTED_BYTES places are always enough. */
 size_t dockplan_print(const uint8_t *ticket, size_t bytes, uint8_t *text, size_t places);
 #define DOCKPLAN_STACK_PRINT 20816
 
@@ -165,10 +169,10 @@ typedef struct {
 } dockplan_check_answer;
 
 /* Checks a plan for a read or save ticket: valid exactly when it is a correct schedule by the paper's conditions.
- * Otherwise the lowest position at fault is named, with the first of its faults in the order above. Refusals 1 to 9,
- * then 12 for mode 02, then 11 where `places` is not L. */
+ * Otherwise the lowest position at fault is named, with the first of its faults in the order above. Refusals 1 to 9
+ * and 17, then 12 for mode 02, then 11 where `places` is not L. */
 dockplan_check_answer dockplan_check(const uint8_t *ticket, size_t bytes, const uint16_t *plan, size_t places);
-#define DOCKPLAN_STACK_CHECK 12800
+#define DOCKPLAN_STACK_CHECK 14912
 
 /* A plan's run on the dock: whether a step was against the rules (broken), the frames handed over, the cycles that
  * ended, whether all frames were handed over (complete; with no frames they are) and the cycles needed for it, 0 if
@@ -185,9 +189,9 @@ typedef struct {
 
 /* Runs a plan, good or bad, on the dock of the ticket's list and pool: for each cycle the reads of its frames in
  * list order, then the end of the cycle. A step against the rules breaks the run off. The ticket's mode is not looked
- * at. Refusals 1 to 9, then 11 where `places` is not L. */
+ * at. Refusals 1 to 9 and 17, then 11 where `places` is not L. */
 dockplan_run_answer dockplan_run_plan(const uint8_t *ticket, size_t bytes, const uint16_t *plan, size_t places);
-#define DOCKPLAN_STACK_RUN_PLAN 21280
+#define DOCKPLAN_STACK_RUN_PLAN 23392
 
 /* ---- The saver: frames saved as they come -------------------------------------------------------------------- */
 

@@ -9,7 +9,8 @@
 #endif
 
 #define HEADER_BYTES 15
-#define LINE_BYTES 3
+#define CARD_DIGITS 2
+#define SECOND_DIGITS 8
 #define PRINTED_HEADER_BYTES 5
 #define PRINTED_LINE_BYTES 11
 #define END '\n'
@@ -26,36 +27,45 @@ enum {
     BYTES_FOLLOW = 9,
     FEW_PLACES = 10,
     OTHER_LENGTH = 11,
-    MODE_NOT_CHECKED = 12
+    MODE_NOT_CHECKED = 12,
+    FALLING_SECOND = 17
 };
 
 /* ---- The ticket -------------------------------------------------------------------------------------------------------------------------- */
 
-/* The value of each byte as a digit. A byte that is no digit has one so large that no line with it passes for a card. */
-#define NO 255
-static const uint8_t digit_value[256] = {
-    NO, NO, NO, NO, NO, NO, NO, NO, NO, NO, NO, NO, NO, NO, NO, NO, /* 00 */
-    NO, NO, NO, NO, NO, NO, NO, NO, NO, NO, NO, NO, NO, NO, NO, NO, /* 10 */
-    NO, NO, NO, NO, NO, NO, NO, NO, NO, NO, NO, NO, NO, NO, NO, NO, /* 20 */
-    0,  1,  2,  3,  4,  5,  6,  7,  8,  9,  NO, NO, NO, NO, NO, NO, /* 30: the digits 0 to 9 */
-    NO, 10, 11, 12, 13, 14, 15, NO, NO, NO, NO, NO, NO, NO, NO, NO, /* 40: the digits A to F */
-    NO, NO, NO, NO, NO, NO, NO, NO, NO, NO, NO, NO, NO, NO, NO, NO, /* 50 */
-    NO, 10, 11, 12, 13, 14, 15, NO, NO, NO, NO, NO, NO, NO, NO, NO, /* 60: the digits a to f */
-    NO, NO, NO, NO, NO, NO, NO, NO, NO, NO, NO, NO, NO, NO, NO, NO, /* 70 */
-    NO, NO, NO, NO, NO, NO, NO, NO, NO, NO, NO, NO, NO, NO, NO, NO, /* 80 */
-    NO, NO, NO, NO, NO, NO, NO, NO, NO, NO, NO, NO, NO, NO, NO, NO, /* 90 */
-    NO, NO, NO, NO, NO, NO, NO, NO, NO, NO, NO, NO, NO, NO, NO, NO, /* A0 */
-    NO, NO, NO, NO, NO, NO, NO, NO, NO, NO, NO, NO, NO, NO, NO, NO, /* B0 */
-    NO, NO, NO, NO, NO, NO, NO, NO, NO, NO, NO, NO, NO, NO, NO, NO, /* C0 */
-    NO, NO, NO, NO, NO, NO, NO, NO, NO, NO, NO, NO, NO, NO, NO, NO, /* D0 */
-    NO, NO, NO, NO, NO, NO, NO, NO, NO, NO, NO, NO, NO, NO, NO, NO, /* E0 */
-    NO, NO, NO, NO, NO, NO, NO, NO, NO, NO, NO, NO, NO, NO, NO, NO, /* F0 */
-};
+/* The value of each byte as a digit, and `NO` for a byte that is none. */
+#define DIGIT_VALUES(NO) \
+    { \
+        NO, NO, NO, NO, NO, NO, NO, NO, NO, NO, NO, NO, NO, NO, NO, NO, /* 00 */ \
+        NO, NO, NO, NO, NO, NO, NO, NO, NO, NO, NO, NO, NO, NO, NO, NO, /* 10 */ \
+        NO, NO, NO, NO, NO, NO, NO, NO, NO, NO, NO, NO, NO, NO, NO, NO, /* 20 */ \
+        0,  1,  2,  3,  4,  5,  6,  7,  8,  9,  NO, NO, NO, NO, NO, NO, /* 30: the digits 0 to 9 */ \
+        NO, 10, 11, 12, 13, 14, 15, NO, NO, NO, NO, NO, NO, NO, NO, NO, /* 40: the digits A to F */ \
+        NO, NO, NO, NO, NO, NO, NO, NO, NO, NO, NO, NO, NO, NO, NO, NO, /* 50 */ \
+        NO, 10, 11, 12, 13, 14, 15, NO, NO, NO, NO, NO, NO, NO, NO, NO, /* 60: the digits a to f */ \
+        NO, NO, NO, NO, NO, NO, NO, NO, NO, NO, NO, NO, NO, NO, NO, NO, /* 70 */ \
+        NO, NO, NO, NO, NO, NO, NO, NO, NO, NO, NO, NO, NO, NO, NO, NO, /* 80 */ \
+        NO, NO, NO, NO, NO, NO, NO, NO, NO, NO, NO, NO, NO, NO, NO, NO, /* 90 */ \
+        NO, NO, NO, NO, NO, NO, NO, NO, NO, NO, NO, NO, NO, NO, NO, NO, /* A0 */ \
+        NO, NO, NO, NO, NO, NO, NO, NO, NO, NO, NO, NO, NO, NO, NO, NO, /* B0 */ \
+        NO, NO, NO, NO, NO, NO, NO, NO, NO, NO, NO, NO, NO, NO, NO, NO, /* C0 */ \
+        NO, NO, NO, NO, NO, NO, NO, NO, NO, NO, NO, NO, NO, NO, NO, NO, /* D0 */ \
+        NO, NO, NO, NO, NO, NO, NO, NO, NO, NO, NO, NO, NO, NO, NO, NO, /* E0 */ \
+        NO, NO, NO, NO, NO, NO, NO, NO, NO, NO, NO, NO, NO, NO, NO, NO, /* F0 */ \
+    }
+
+/* One byte that is none makes a number of 2 digits so large that it does not pass for a card. */
+#define NO_DIGIT 255
+static const uint8_t digit_value[256] = DIGIT_VALUES(NO_DIGIT);
+
+/* The same for numbers of up to 8 digits: one byte that is none makes it larger than any second. */
+#define NO_WIDE_DIGIT ((uint64_t)UINT32_MAX + 1)
+static const uint64_t wide_digit_value[256] = DIGIT_VALUES(NO_WIDE_DIGIT);
 
 static bool are_digits(const uint8_t *text, size_t count)
 {
     for (size_t i = 0; i < count; i++) {
-        if (digit_value[text[i]] == NO) {
+        if (digit_value[text[i]] == NO_DIGIT) {
             return false;
         }
     }
@@ -76,6 +86,19 @@ static dockplan_ticket_answer refused(unsigned refusal)
     return (dockplan_ticket_answer){.refusal = (uint8_t)refusal};
 }
 
+/* The digits of a frame line, 0 where the edition is not known. */
+static inline size_t line_digits(unsigned edition)
+{
+    switch (edition) {
+    case 1:
+        return CARD_DIGITS;
+    case 2:
+        return CARD_DIGITS + SECOND_DIGITS;
+    default:
+        return 0;
+    }
+}
+
 /* The first 15 bytes of a ticket. */
 static dockplan_ticket_answer read_header(const uint8_t *ticket, size_t bytes)
 {
@@ -87,7 +110,7 @@ static dockplan_ticket_answer read_header(const uint8_t *ticket, size_t bytes)
     unsigned cards = number(ticket + 4, 2);
     unsigned pool = number(ticket + 6, 4);
     unsigned frames = number(ticket + 10, 4);
-    if (edition != 1) {
+    if (line_digits(edition) == 0) {
         return refused(WRONG_EDITION);
     }
     if (mode > DOCKPLAN_SAVE_AND_KEEP) {
@@ -111,28 +134,64 @@ static dockplan_ticket_answer read_header(const uint8_t *ticket, size_t bytes)
     };
 }
 
-/* The refusal of a line that has no card below the number of cards. */
-static unsigned line_refusal(const uint8_t *line)
+/* The first ground against a line that was not taken. */
+static unsigned line_refusal(const uint8_t *line, size_t digits, unsigned cards)
 {
-    return are_digits(line, 2) && line[2] == END ? WRONG_CARD : WRONG_LINE;
+    if (!are_digits(line, digits) || line[digits] != END) {
+        return WRONG_LINE;
+    }
+    return number(line, CARD_DIGITS) >= cards ? WRONG_CARD : FALLING_SECOND;
 }
 
-/* The lines of the frames, which begin at `line`. Stores the card of each frame and answers the refusal, 0 for none. */
-static unsigned read_lines(const uint8_t *line, size_t bytes, unsigned cards, size_t frames, uint8_t *card)
+/* Lines of edition 01. Stores the card of each frame and answers the refusal, 0 for none. */
+static unsigned read_cards(const uint8_t *line, size_t lines, unsigned cards, uint8_t *card)
 {
-    size_t whole_lines = bytes / LINE_BYTES;
-    size_t lines = whole_lines < frames ? whole_lines : frames;
-    for (size_t i = 0; i < lines; i++, line += LINE_BYTES) {
+    const size_t digits = line_digits(1);
+    for (size_t i = 0; i < lines; i++, line += digits + 1) {
         unsigned value = digit_value[line[0]] * 16u + digit_value[line[1]];
-        if (value >= cards || line[2] != END) {
-            return line_refusal(line);
+        if (value >= cards || line[digits] != END) {
+            return line_refusal(line, digits, cards);
         }
         card[i] = (uint8_t)value;
     }
-    if (lines < frames) {
+    return 0;
+}
+
+/* Lines of edition 02: the same, and no second may be lower than the one before. That a second has digits alone is one test of its number. */
+static unsigned read_cards_and_seconds(const uint8_t *line, size_t lines, unsigned cards, uint8_t *card)
+{
+    const size_t digits = line_digits(2);
+    uint64_t before = 0;
+    for (size_t i = 0; i < lines; i++, line += digits + 1) {
+        uint64_t value = wide_digit_value[line[0]] * 16 + wide_digit_value[line[1]];
+        uint64_t second = 0;
+        for (size_t k = CARD_DIGITS; k < digits; k++) {
+            second = second * 16 + wide_digit_value[line[k]];
+        }
+        if (value >= cards || second > UINT32_MAX || line[digits] != END || second < before) {
+            return line_refusal(line, digits, cards);
+        }
+        card[i] = (uint8_t)value;
+        before = second;
+    }
+    return 0;
+}
+
+/* The lines of the frames, which begin at `line`. Stores the card of each frame and answers the refusal, 0 for none. */
+static unsigned read_lines(const uint8_t *line, size_t bytes, dockplan_ticket_answer header, uint8_t *card)
+{
+    size_t line_bytes = line_digits(header.edition) + 1;
+    size_t whole_lines = bytes / line_bytes;
+    size_t lines = whole_lines < header.frames ? whole_lines : header.frames;
+    unsigned refusal = header.edition == 1 ? read_cards(line, lines, header.cards, card)
+                                           : read_cards_and_seconds(line, lines, header.cards, card);
+    if (refusal != 0) {
+        return refusal;
+    }
+    if (lines < header.frames) {
         return WRONG_LINE;
     }
-    return bytes > frames * LINE_BYTES ? BYTES_FOLLOW : 0;
+    return bytes > header.frames * line_bytes ? BYTES_FOLLOW : 0;
 }
 
 /* Reads a ticket: what its header says, and the card of each frame. */
@@ -142,7 +201,7 @@ static dockplan_ticket_answer read_ticket(const uint8_t *ticket, size_t bytes, u
     if (header.refusal != 0) {
         return header;
     }
-    unsigned refusal = read_lines(ticket + HEADER_BYTES, bytes - HEADER_BYTES, header.cards, header.frames, card);
+    unsigned refusal = read_lines(ticket + HEADER_BYTES, bytes - HEADER_BYTES, header, card);
     return refusal != 0 ? refused(refusal) : header;
 }
 

@@ -15,7 +15,7 @@ pub fn belongs_together() -> bool {
     unsafe { raw::dockplan_version() == raw::VERSION }
 }
 
-/// The number of the refusal that a call met, 1 to 16. It is never 0.
+/// The number of the refusal that a call met, 1 to 17. It is never 0. A ticket's own are 1 to 9 and 17.
 #[derive(Clone, Copy, Debug, PartialEq, Eq)]
 pub struct Refusal(pub u8);
 
@@ -27,7 +27,7 @@ fn accepted(refusal: u8) -> Result<(), Refusal> {
     }
 }
 
-/// What the header of an accepted ticket says. The modes are 0 read, 1 save, 2 save and keep.
+/// What the header of an accepted ticket says. The editions are 1 and 2, the modes 0 read, 1 save, 2 save and keep.
 #[derive(Clone, Copy, Debug, PartialEq, Eq)]
 pub struct Ticket {
     pub edition: u8,
@@ -37,7 +37,7 @@ pub struct Ticket {
     pub frames: u16,
 }
 
-/// Reads a whole ticket, its lines too. Refusals 1 to 9.
+/// Reads a whole ticket, its lines too. Refusals 1 to 9 and 17.
 pub fn parse(ticket: &[u8]) -> Result<Ticket, Refusal> {
     // SAFETY: pointer and count are those of one slice.
     let answer = unsafe { raw::dockplan_parse(ticket.as_ptr(), ticket.len()) };
@@ -51,7 +51,8 @@ pub fn parse(ticket: &[u8]) -> Result<Ticket, Refusal> {
     })
 }
 
-/// The line of the frame at a position, without its end byte, as a part of the ticket. Refusals 1 to 9, then 16.
+/// The line of the frame at a position, without its end byte, as a part of the ticket: the digits of its card and, in
+/// edition 02, of its capture second. Refusals 1 to 9 and 17, then 16.
 pub fn line(ticket: &[u8], position: Position) -> Result<&[u8], Refusal> {
     // SAFETY: pointer and count are those of one slice.
     accepted(unsafe { raw::dockplan_line_refusal(ticket.as_ptr(), ticket.len(), position) })?;
@@ -61,7 +62,7 @@ pub fn line(ticket: &[u8], position: Position) -> Result<&[u8], Refusal> {
     Ok(from_offset.get(..part.length).unwrap_or_default())
 }
 
-/// How many frames each of the 32 cards has. Refusals 1 to 9.
+/// How many frames each of the 32 cards has. Refusals 1 to 9 and 17.
 pub fn counts(ticket: &[u8]) -> Result<[u16; 32], Refusal> {
     // SAFETY: pointer and count are those of one slice.
     let answer = unsafe { raw::dockplan_counts(ticket.as_ptr(), ticket.len()) };
@@ -70,7 +71,7 @@ pub fn counts(ticket: &[u8]) -> Result<[u16; 32], Refusal> {
 }
 
 /// Plans a ticket and answers T. The first L places of `out` get each frame's cycle, 0 for a frame that is kept.
-/// Refusals 1 to 9, then 10 where `out` has fewer than L places.
+/// Refusals 1 to 9 and 17, then 10 where `out` has fewer than L places.
 pub fn plan(ticket: &[u8], out: &mut [u16]) -> Result<Cycle, Refusal> {
     // SAFETY: each pointer and count are those of one slice, and `out` is borrowed alone.
     let answer = unsafe { raw::dockplan_plan(ticket.as_ptr(), ticket.len(), out.as_mut_ptr(), out.len()) };
@@ -98,7 +99,8 @@ pub enum Verdict {
     Overfull(Position),
 }
 
-/// Checks a plan for a read or save ticket. Refusals 1 to 9, then 12 for mode 02, then 11 for a plan of another length.
+/// Checks a plan for a read or save ticket. Refusals 1 to 9 and 17, then 12 for mode 02, then 11 for a plan of another
+/// length.
 pub fn check(ticket: &[u8], plan: &[u16]) -> Result<Verdict, Refusal> {
     // SAFETY: each pointer and count are those of one slice.
     let answer = unsafe { raw::dockplan_check(ticket.as_ptr(), ticket.len(), plan.as_ptr(), plan.len()) };
@@ -130,7 +132,7 @@ pub struct Run {
 }
 
 /// Runs a plan, good or bad, on the dock of the ticket's list and pool.
-/// Refusals 1 to 9, then 11 for a plan of another length.
+/// Refusals 1 to 9 and 17, then 11 for a plan of another length.
 pub fn run_plan(ticket: &[u8], plan: &[u16]) -> Result<Run, Refusal> {
     // SAFETY: each pointer and count are those of one slice.
     let answer = unsafe { raw::dockplan_run_plan(ticket.as_ptr(), ticket.len(), plan.as_ptr(), plan.len()) };

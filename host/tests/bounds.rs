@@ -64,27 +64,39 @@ impl Drop for Guarded {
     }
 }
 
-/// Tickets in each mode, with each length that they can be cut to.
+/// The tickets of each edition and mode with this rest of the header and these cards. All seconds are equal.
+fn tickets(rest_of_header: &str, list: &[u8]) -> Vec<String> {
+    let mut tickets = Vec::new();
+    for (edition, second) in [("01", ""), ("02", "7FFFFFFF")] {
+        for mode in 0..3 {
+            let mut ticket = format!("{edition}{mode:02X}{rest_of_header}\n");
+            list.iter().for_each(|card| ticket += &format!("{card:02X}{second}\n"));
+            tickets.push(ticket);
+        }
+    }
+    tickets
+}
+
+/// Tickets of each edition and mode, with each length that they can be cut to, and with a byte after the last line.
 #[test]
 fn cut_tickets() {
     let mut memory = Memory::new();
-    for mode in 0..3 {
-        let whole = format!("01{mode:02X}0200020006\n00\n00\n01\n00\n01\n01\n\n");
+    for ticket in tickets("0200020006", &[0, 0, 1, 0, 1, 1]) {
+        let whole = ticket + "\n";
         for length in 0..=whole.len() {
             memory.call_everything(&whole.as_bytes()[..length], &[1, 2, 2, 3, 3, 4]);
         }
     }
 }
 
-/// The longest ticket in each mode.
+/// The longest ticket of each edition and mode.
 #[test]
 fn longest_tickets() {
     let mut memory = Memory::new();
     let cycles: Vec<u16> = (1..=4096).collect();
-    for mode in 0..3 {
-        let mut ticket = format!("01{mode:02X}2004001000\n").into_bytes();
-        (0..4096).for_each(|position| ticket.extend(format!("{:02X}\n", position % 32).bytes()));
-        memory.call_everything(&ticket, &cycles);
+    let list: Vec<u8> = (0..4096).map(|position| (position % 32) as u8).collect();
+    for ticket in tickets("2004001000", &list) {
+        memory.call_everything(ticket.as_bytes(), &cycles);
     }
 }
 
@@ -98,7 +110,7 @@ struct Memory {
 impl Memory {
     fn new() -> Memory {
         Memory {
-            ticket: Guarded::new(4),
+            ticket: Guarded::new(12),
             plan: Guarded::new(2),
             text: Guarded::new(12),
         }

@@ -1,5 +1,5 @@
-//! The cases of document 01, written down from the document and run through the safe wrappers.
-//! Where a case has no T, it is the plan's largest cycle number, as the document defines it.
+//! The cases of document 01 and worked examples of the requests in document 02, written down from the documents and run
+//! through the safe wrappers. Where a case has no T, it is the plan's largest cycle number, as document 01 defines it.
 
 use dockplan::{Cycle, Position, Refusal, Saver, Verdict};
 
@@ -16,10 +16,23 @@ fn ticket(mode: u8, cards: usize, m: usize, list: &[u8]) -> Vec<u8> {
     text.into_bytes()
 }
 
-/// A ticket whose cards are just enough for its list.
-fn ticket_of_list(mode: u8, m: usize, list: &[u8]) -> Vec<u8> {
+/// A ticket of edition 02 with these numbers, and the card and capture second of each frame.
+fn ticket_with_seconds(mode: u8, cards: usize, m: usize, frames: &[(u8, u32)]) -> Vec<u8> {
+    let mut text = format!("02{mode:02X}{cards:02X}{m:04X}{:04X}\n", frames.len());
+    for (card, second) in frames {
+        text += &format!("{card:02X}{second:08X}\n");
+    }
+    text.into_bytes()
+}
+
+/// The tickets of each edition whose cards are just enough for a list. In edition 02 two frames have each second.
+fn tickets_of_list(mode: u8, m: usize, list: &[u8]) -> [Vec<u8>; 2] {
     let cards = list.iter().max().map_or(1, |&card| usize::from(card) + 1);
-    ticket(mode, cards, m, list)
+    let frames: Vec<(u8, u32)> = list.iter().copied().zip((0..).map(|position| position / 2)).collect();
+    [
+        ticket(mode, cards, m, list),
+        ticket_with_seconds(mode, cards, m, &frames),
+    ]
 }
 
 struct PlanCase {
@@ -49,12 +62,13 @@ const PLANS: [PlanCase; 12] = [
 #[test]
 fn plans() {
     for case in PLANS {
-        let ticket = ticket_of_list(case.mode, case.m, case.list);
-        let input = ticket.escape_ascii();
-        let mut plan = vec![0xA5A5; case.list.len()];
-        let length = dockplan::plan(&ticket, &mut plan);
-        assert_eq!(length, Ok(Cycle(case.cycles)), "{input}");
-        assert_eq!(plan, case.plan, "{input}");
+        for ticket in tickets_of_list(case.mode, case.m, case.list) {
+            let input = ticket.escape_ascii();
+            let mut plan = vec![0xA5A5; case.list.len()];
+            let length = dockplan::plan(&ticket, &mut plan);
+            assert_eq!(length, Ok(Cycle(case.cycles)), "{input}");
+            assert_eq!(plan, case.plan, "{input}");
+        }
     }
 }
 
@@ -103,16 +117,25 @@ const CHECKS: [(usize, [u16; 3], Expected); 7] = [
 #[test]
 fn checks() {
     for (m, plan, expected) in CHECKS {
-        let verdict = dockplan::check(&ticket_of_list(READ, m, &[0, 0, 1]), &plan).unwrap();
-        let agrees = match (verdict, expected) {
-            (Verdict::Valid { cycles, peak }, Valid(given_cycles, given_peak)) => {
-                given_cycles.is_none_or(|given| cycles == Cycle(given)) && given_peak.is_none_or(|given| peak == given)
-            }
-            (Verdict::SharedCard(position), SharedCard(given)) => position == Position(given),
-            (Verdict::Overfull(position), Overfull(given)) => position == Position(given),
-            _ => false,
-        };
-        assert!(agrees, "m={m}, plan {plan:?}: {verdict:?}");
+        for ticket in tickets_of_list(READ, m, &[0, 0, 1]) {
+            let verdict = dockplan::check(&ticket, &plan).unwrap();
+            assert!(
+                agrees(verdict, &expected),
+                "{}, plan {plan:?}: {verdict:?}",
+                ticket.escape_ascii()
+            );
+        }
+    }
+}
+
+fn agrees(verdict: Verdict, expected: &Expected) -> bool {
+    match (verdict, expected) {
+        (Verdict::Valid { cycles, peak }, Valid(given_cycles, given_peak)) => {
+            given_cycles.is_none_or(|given| cycles == Cycle(given)) && given_peak.is_none_or(|given| peak == given)
+        }
+        (Verdict::SharedCard(position), SharedCard(given)) => position == Position(*given),
+        (Verdict::Overfull(position), Overfull(given)) => position == Position(*given),
+        _ => false,
     }
 }
 
@@ -136,6 +159,22 @@ fn limits() {
     assert_eq!(refusal(b""), 1);
 }
 
+/// The longest ticket has edition 02 and 4,096 frames: 15 + 11 × 4,096 bytes. One byte more follows the last line.
+#[test]
+fn longest_ticket() {
+    let mut ticket = ticket_with_seconds(READ, 32, 1024, &[(31, u32::MAX); 4096]);
+    assert_eq!(ticket.len(), 45_071);
+    assert_eq!(refusal(&ticket), 0);
+    let last = dockplan::line(&ticket, Position(4095));
+    assert_eq!(last, Ok(&b"1FFFFFFFFF"[..]));
+    for byte in [b'\n', b'0', 0] {
+        ticket.push(byte);
+        assert_eq!(refusal(&ticket), 9);
+        ticket.pop();
+    }
+    assert_eq!(refusal(&ticket_with_seconds(READ, 1, 1, &[(0, 0); 4097])), 6);
+}
+
 fn refusal(ticket: &[u8]) -> u8 {
     dockplan::parse(ticket).err().map_or(0, |Refusal(number)| number)
 }
@@ -148,6 +187,16 @@ fn printing() {
     assert_eq!(&out[..bytes], b"0002\n0000000001\n0001000002\n0002010002\n");
     let bytes = dockplan::print(b"", &mut out);
     assert_eq!(&out[..bytes], b"FF01\n");
+}
+
+/// Edition 02 prints the same lines, without the seconds; 17 is 11 in hexadecimal.
+#[test]
+fn printing_with_seconds() {
+    let mut out = [0; 64];
+    let bytes = dockplan::print(b"02000200020003\n0000000E10\n0000000E10\n0100000E11\n", &mut out);
+    assert_eq!(&out[..bytes], b"0002\n0000000001\n0001000002\n0002010002\n");
+    let bytes = dockplan::print(b"02000200020003\n0000000E10\n0000000E11\n0100000E10\n", &mut out);
+    assert_eq!(&out[..bytes], b"FF11\n");
 }
 
 /// "A digit now has its value in either case, also mixed within a line. .. Printed lines remain upper case": header fields and
@@ -185,6 +234,20 @@ fn no_digits() {
     }
 }
 
+/// The same for a line of edition 02: its card, its second, and its end byte, which is right at the end alone.
+#[test]
+fn no_digits_in_seconds() {
+    for byte in [0x2F, 0x3A, 0x40, 0x47, 0x60, 0x67, b'\n', b'\r'] {
+        for place in 15..=25 {
+            let mut ticket = *b"02002000020001\n00DEADBEEF\n";
+            assert_eq!(refusal(&ticket), 0);
+            let own = std::mem::replace(&mut ticket[place], byte);
+            let number = if own == byte { 0 } else { 7 };
+            assert_eq!(refusal(&ticket), number, "byte {byte:02X} at {place}");
+        }
+    }
+}
+
 /// "For a position, the reader hands back that frame's line as a part of the caller's own ticket, without its end
 /// byte."
 #[test]
@@ -194,4 +257,138 @@ fn lines() {
         assert_eq!(dockplan::line(ticket, Position(position)), Ok(&line[..]));
     }
     assert_eq!(dockplan::line(ticket, Position(3)), Err(Refusal(16)));
+}
+
+/// In edition 02 "each frame line has 10 digits, the card (2) and the capture second (8)", in the caller's own bytes.
+#[test]
+fn lines_with_seconds() {
+    let ticket = b"02000200020003\n0000000009\n000000000a\n010000000A\n";
+    for (position, line) in [(0, b"0000000009"), (1, b"000000000a"), (2, b"010000000A")] {
+        assert_eq!(dockplan::line(ticket, Position(position)), Ok(&line[..]));
+    }
+    assert_eq!(dockplan::line(ticket, Position(3)), Err(Refusal(16)));
+    let falling = b"02000200020002\n000000000a\n0000000009\n";
+    assert_eq!(dockplan::line(falling, Position(0)), Err(Refusal(17)));
+    assert_eq!(dockplan::line(falling, Position(2)), Err(Refusal(17)));
+}
+
+/// "Refusal 2 now means neither 01 nor 02": all editions that 2 digits can say, for a ticket without frames.
+#[test]
+fn editions() {
+    for edition in 0..=255 {
+        let header = dockplan::parse(format!("{edition:02X}000200020000\n").as_bytes());
+        match edition {
+            1 | 2 => assert_eq!(header.map(|header| header.edition), Ok(edition)),
+            _ => assert_eq!(header, Err(Refusal(2)), "edition {edition:02X}"),
+        }
+    }
+}
+
+/// "The edition in the header decides": lines of the other edition are not its digits and an end byte.
+#[test]
+fn lines_of_the_other_edition() {
+    assert_eq!(refusal(b"01000200020001\n0000000E10\n"), 7);
+    assert_eq!(refusal(b"02000200020001\n00\n"), 7);
+    assert_eq!(refusal(b"01000200020002\n00\n0000000E10\n"), 7);
+    assert_eq!(refusal(b"02000200020002\n0000000E10\n00\n"), 7);
+    assert_eq!(refusal(b"02000200020004\n00\n00\n00\n00\n"), 7);
+    assert_eq!(refusal(b"03000200020001\n0000000E10\n"), 2);
+}
+
+/// "Seconds may repeat but not fall."
+const GOOD_SECONDS: [&[u32]; 11] = [
+    &[],
+    &[0],
+    &[u32::MAX],
+    &[0, 0, 0],
+    &[u32::MAX, u32::MAX, u32::MAX],
+    &[0, u32::MAX],
+    &[5, 5, 6, 6, 7],
+    &[0x0000_FFFF, 0x0001_0000],
+    &[0x0001_FFFF, 0x0002_0000],
+    &[0x00FF_FFFF, 0x0100_0000],
+    &[0x7FFF_FFFF, 0x8000_0000],
+];
+
+const FALLING_SECONDS: [&[u32]; 10] = [
+    &[1, 0],
+    &[u32::MAX, 0],
+    &[u32::MAX, u32::MAX - 1],
+    &[5, 6, 5],
+    &[5, 5, 4, 5],
+    &[9, 10, 11, 12, 11],
+    &[0x0001_0000, 0x0000_FFFF],
+    &[0x0002_0000, 0x0001_FFFF],
+    &[0x0100_0000, 0x00FF_FFFF],
+    &[0x8000_0000, 0x7FFF_FFFF],
+];
+
+/// 17 "for a second lower than the line before", as a number. The case of its digits makes no difference.
+#[test]
+fn seconds() {
+    for seconds in GOOD_SECONDS {
+        assert_eq!(refusal_of_seconds(seconds), 0, "{seconds:X?}");
+    }
+    for seconds in FALLING_SECONDS {
+        assert_eq!(refusal_of_seconds(seconds), 17, "{seconds:X?}");
+    }
+    assert_eq!(refusal(b"02000200020002\n000000000a\n000000000B\n"), 0);
+    assert_eq!(refusal(b"02000200020002\n000000000B\n000000000a\n"), 17);
+    assert_eq!(refusal(b"02000200020002\n00ABCDEFab\n00abcdefAB\n"), 0);
+}
+
+/// The refusal of a ticket whose frames, all on card 0, have these capture seconds.
+fn refusal_of_seconds(seconds: &[u32]) -> u8 {
+    let frames: Vec<(u8, u32)> = seconds.iter().map(|&second| (0, second)).collect();
+    refusal(&ticket_with_seconds(SAVE, 1, 1, &frames))
+}
+
+/// In a list of rising seconds, one alone repeats or falls by one: in each line but the first.
+#[test]
+fn one_falling_second_among_many() {
+    let rising: Vec<u32> = (0..300).map(|position| 0xFF00 + position).collect();
+    assert_eq!(refusal_of_seconds(&rising), 0);
+    for position in 1..rising.len() {
+        let mut seconds = rising.clone();
+        seconds[position] = seconds[position - 1];
+        assert_eq!(refusal_of_seconds(&seconds), 0, "repeats at {position}");
+        seconds[position] -= 1;
+        assert_eq!(refusal_of_seconds(&seconds), 17, "falls at {position}");
+    }
+}
+
+/// "17 [...] after 7 and 8 of the same line", line by line, and before 9.
+#[test]
+fn order_of_7_8_and_17() {
+    for (lines, number) in [
+        ("0000000005\n0000000004\n", 17),
+        ("0000000005\n0200000004\n", 8),
+        ("0000000005\n0G00000004\n", 7),
+        ("0000000005\n000000000g\n", 7),
+        ("0000000005\n0000000004 ", 7),
+        ("0000000005\n0200000004", 7),
+        ("0000000005\n02000000G4\n", 7),
+        ("0200000005\n0000000004\n", 8),
+        ("000000000G\n0000000004\n", 7),
+        ("0000000005\n0000000004\n\n", 17),
+        ("0000000005\n0000000005\n\n", 9),
+    ] {
+        let ticket = format!("02000200020002\n{lines}");
+        assert_eq!(refusal(ticket.as_bytes()), number, "{lines:?}");
+    }
+    for third in ["0000000005\n", "0000000003\n", "0200000005\n", "0G\n", ""] {
+        let ticket = format!("02000200020003\n0000000005\n0000000004\n{third}");
+        assert_eq!(refusal(ticket.as_bytes()), 17, "{third:?}");
+    }
+}
+
+/// A ticket of edition 02 that is cut short: 1 within the header, 7 within the lines.
+#[test]
+fn cut_short() {
+    let ticket = b"02000200020003\n0000000E10\n0000000E10\n0100000E11\n";
+    assert_eq!(refusal(ticket), 0);
+    for length in 0..ticket.len() {
+        let number = if length < 15 { 1 } else { 7 };
+        assert_eq!(refusal(&ticket[..length]), number, "{length} bytes");
+    }
 }

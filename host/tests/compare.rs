@@ -1,5 +1,5 @@
 //! Every call of the library beside the reference, on many tickets, plans and saver calls from a fixed seed.
-//! The tally at the end says how much was compared, and asserts that no refusal and no verdict was left out.
+//! The tally at the end says how much was compared, and asserts that no edition, refusal or verdict was left out.
 
 mod generate;
 mod library;
@@ -54,6 +54,10 @@ fn compare_ticket(random: &mut Random, ticket: &[u8], tally: &mut Tally) {
     if header.refusal == 0 {
         same::foreign::compare(random, ticket, &header, &own, tally);
         same::saving::compare_list(ticket, tally);
+        if header.edition == 2 {
+            let plan = plans::foreign(random, &own);
+            same::seconds::compare(ticket, &header, &plan, tally);
+        }
     } else {
         same::foreign::compare_refused(random, ticket);
     }

@@ -10,6 +10,7 @@ use std::thread;
 const NO_FRAMES: &[u8] = b"01000200020000\n";
 const ONE_FRAME: &[u8] = b"01000200020001\n01\n";
 const EXAMPLE: &[u8] = b"01000200020003\n00\n00\n01\n";
+const WITH_SECONDS: &[u8] = b"02000200020003\n0000000E10\n0000000E10\n0100000E11\n";
 
 /// "With a count of 0 any pointer will do, NULL too": the answers for no ticket.
 #[test]
@@ -51,7 +52,7 @@ fn null_is_an_empty_ticket() {
 /// The same for plans and text: a null buffer has no places, and a null plan has no cycles.
 #[test]
 fn null_is_an_empty_plan() {
-    for ticket in [NO_FRAMES, ONE_FRAME, EXAMPLE] {
+    for ticket in [NO_FRAMES, ONE_FRAME, EXAMPLE, WITH_SECONDS] {
         let (start, bytes) = (ticket.as_ptr(), ticket.len());
         unsafe {
             assert_eq!(
@@ -75,44 +76,52 @@ fn null_is_an_empty_plan() {
 #[test]
 fn inputs_stay_as_they_are() {
     for shift in 0..8 {
-        let mut memory = vec![b'0'; shift];
-        memory.extend(EXAMPLE);
-        let before = memory.clone();
-        let mut plan: [u16; 3] = [2, 1, 2];
-        let mut out = [0; 3];
-        let mut text = [0; 64];
-        unsafe {
-            let ticket = memory.as_mut_ptr().add(shift).cast_const();
-            let cycles = plan.as_mut_ptr().cast_const();
-            assert_eq!(dockplan_parse(ticket, EXAMPLE.len()), reference::parse(EXAMPLE));
-            dockplan_line(ticket, EXAMPLE.len(), Position(1));
-            dockplan_line_refusal(ticket, EXAMPLE.len(), Position(1));
-            dockplan_counts(ticket, EXAMPLE.len());
-            dockplan_plan(ticket, EXAMPLE.len(), out.as_mut_ptr(), out.len());
-            dockplan_print(ticket, EXAMPLE.len(), text.as_mut_ptr(), text.len());
-            dockplan_check(ticket, EXAMPLE.len(), cycles, plan.len());
-            dockplan_run_plan(ticket, EXAMPLE.len(), cycles, plan.len());
+        for ticket in [EXAMPLE, WITH_SECONDS] {
+            call_with_ticket_at(shift, ticket);
         }
-        assert_eq!(memory, before);
-        assert_eq!(plan, [2, 1, 2]);
     }
 }
 
-/// Two threads call at the same time, and each gets the answers for its own ticket.
+fn call_with_ticket_at(shift: usize, example: &[u8]) {
+    let bytes = example.len();
+    let mut memory = vec![b'0'; shift];
+    memory.extend(example);
+    let before = memory.clone();
+    let mut plan: [u16; 3] = [2, 1, 2];
+    let mut out = [0; 3];
+    let mut text = [0; 64];
+    unsafe {
+        let ticket = memory.as_mut_ptr().add(shift).cast_const();
+        let cycles = plan.as_mut_ptr().cast_const();
+        assert_eq!(dockplan_parse(ticket, bytes), reference::parse(example));
+        dockplan_line(ticket, bytes, Position(1));
+        dockplan_line_refusal(ticket, bytes, Position(1));
+        dockplan_counts(ticket, bytes);
+        dockplan_plan(ticket, bytes, out.as_mut_ptr(), out.len());
+        dockplan_print(ticket, bytes, text.as_mut_ptr(), text.len());
+        dockplan_check(ticket, bytes, cycles, plan.len());
+        dockplan_run_plan(ticket, bytes, cycles, plan.len());
+    }
+    assert_eq!(memory, before);
+    assert_eq!(plan, [2, 1, 2]);
+}
+
+/// Two threads call at the same time, and each gets the answers for its own ticket, one of each edition.
 #[test]
 fn two_threads_do_not_meet() {
     thread::scope(|scope| {
-        for (mode, m) in [("00", 3), ("01", 40)] {
-            scope.spawn(move || call_again_and_again(mode, m));
+        for (edition_and_mode, second, m) in [("0100", "", 3), ("0201", "00000E10", 40)] {
+            scope.spawn(move || call_again_and_again(edition_and_mode, second, m));
         }
     });
 }
 
-fn call_again_and_again(mode: &str, m: u16) {
+/// `second` is what stands behind the card in each line.
+fn call_again_and_again(edition_and_mode: &str, second: &str, m: u16) {
     let list: Vec<u8> = (0..300u32).map(|position| (position * position % 7) as u8).collect();
-    let mut ticket = format!("01{mode}07{m:04X}{:04X}\n", list.len()).into_bytes();
+    let mut ticket = format!("{edition_and_mode}07{m:04X}{:04X}\n", list.len()).into_bytes();
     list.iter()
-        .for_each(|card| ticket.extend(format!("{card:02X}\n").bytes()));
+        .for_each(|card| ticket.extend(format!("{card:02X}{second}\n").bytes()));
     let mut plan = vec![0; list.len()];
     let mut text = vec![0; 5 + 11 * list.len()];
     let plan_answer = reference::plan(&ticket, &mut plan);

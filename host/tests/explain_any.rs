@@ -6,17 +6,21 @@ mod generate;
 use dockplan::explain::place::{self, Place};
 use dockplan::explain::{explain, File};
 use dockplan::{Refusal, Ticket, Verdict};
+use generate::tickets::{line, line_bytes, CARD_DIGITS, HEADER_BYTES, SECOND_DIGITS};
 use generate::{plans, tickets, Random};
 
 const TICKETS: usize = 40_000;
 
-const HEADER_BYTES: usize = 15;
-const LINE_BYTES: usize = 3;
 const GOOD_HEADER: &[u8; HEADER_BYTES] = b"01000100010000\n";
-const GOOD_LINE: &[u8; LINE_BYTES] = b"00\n";
 
 fn refusal(ticket: &[u8]) -> u8 {
     dockplan::parse(ticket).err().map_or(0, |Refusal(number)| number)
+}
+
+/// The edition of a ticket whose header is good.
+fn edition(ticket: &[u8]) -> usize {
+    let digits = std::str::from_utf8(&ticket[..2]).unwrap();
+    usize::from_str_radix(digits, 16).unwrap()
 }
 
 // ---- The place of a refusal ----
@@ -25,19 +29,19 @@ fn refusal(ticket: &[u8]) -> u8 {
 #[test]
 fn places_of_refusals() {
     let mut random = Random::new(11);
-    let mut seen = [0; 10];
+    let mut seen = [0; 18];
     for _ in 0..TICKETS {
         let ticket = tickets::any(&mut random);
         let number = refusal(&ticket);
         seen[usize::from(number)] += 1;
         match (place::find(&ticket, number), number) {
             (None, 0) => (),
-            (Some(place), 1..=9) => try_place(&ticket, number, &place),
+            (Some(place), 1..=9 | 17) => try_place(&ticket, number, &place),
             (place, _) => panic!("{}: {number}, {place:?}", ticket.escape_ascii()),
         }
     }
     assert!(
-        seen.iter().all(|&times| times >= 300),
+        (0..=9).chain([17]).all(|number| seen[number] >= 300),
         "a refusal is too rare: {seen:?}"
     );
 }
@@ -48,7 +52,7 @@ fn try_place(ticket: &[u8], number: u8, place: &Place) {
     match number {
         1 => wrong_byte(ticket, 0, GOOD_HEADER, place, 1, &input),
         2..=6 => wrong_field(ticket, number, place, &input),
-        7 | 8 => wrong_line(ticket, number, place, &input),
+        7 | 8 | 17 => wrong_line(ticket, number, place, &input),
         _ => {
             assert!(place.offset < ticket.len(), "{input}");
             assert_eq!(refusal(&ticket[..place.offset]), 0, "{input}");
@@ -76,29 +80,52 @@ fn wrong_byte(ticket: &[u8], start: usize, good: &[u8], place: &Place, number: u
 
 /// With a good value in the named field the ticket is accepted or gets a later refusal.
 fn wrong_field(ticket: &[u8], number: u8, place: &Place, input: &str) {
-    let field = place.offset..place.offset + place.bytes;
-    let mut mended = ticket.to_vec();
-    mended[field.clone()].copy_from_slice(&GOOD_HEADER[field]);
-    let after = refusal(&mended);
+    let good = &GOOD_HEADER[place.offset..place.offset + place.bytes];
+    let after = refusal(&mended(ticket, place, good));
     assert!(after == 0 || after > number, "{input}: then {after}");
 }
 
 /// A ticket that ends before the named line is accepted, one that ends with it gets the same refusal. In the line it is
-/// the named byte that is malformed, or the whole card number that is too large.
+/// the named byte that is malformed, the whole card number that is too large, or the whole second that is too low.
 fn wrong_line(ticket: &[u8], number: u8, place: &Place, input: &str) {
+    let edition = edition(ticket);
     let position = place.line - 2;
-    let start = HEADER_BYTES + LINE_BYTES * position;
-    let end = ticket.len().min(start + LINE_BYTES);
+    let start = HEADER_BYTES + line_bytes(edition) * position;
+    let end = ticket.len().min(start + line_bytes(edition));
     assert_eq!(refusal(&with_frames(&ticket[..start], position)), 0, "{input}");
-    let through_line = with_frames(ticket, position + 1);
-    assert_eq!(refusal(&through_line[..end]), number, "{input}");
-    if number == 7 {
-        wrong_byte(&through_line, start, GOOD_LINE, place, number, input);
-    } else {
-        assert_eq!((place.offset, place.bytes), (start, LINE_BYTES - 1), "{input}");
-        let mended = [&through_line[..start], GOOD_LINE].concat();
-        assert_eq!(refusal(&mended), 0, "{input}");
+    let through_line = &with_frames(ticket, position + 1)[..end];
+    assert_eq!(refusal(through_line), number, "{input}");
+    let good_line = line(edition, 0, u32::MAX);
+    match number {
+        7 => wrong_byte(through_line, start, good_line.as_bytes(), place, 7, input),
+        8 => wrong_card(through_line, start, place, input),
+        _ => wrong_second(through_line, start, place, input),
     }
+}
+
+/// The place is the card of the last line, which begins at `start`. With card 0 the ticket is accepted, or the line's
+/// second is too low as well.
+fn wrong_card(ticket: &[u8], start: usize, place: &Place, input: &str) {
+    assert_eq!((place.offset, place.bytes), (start, CARD_DIGITS), "{input}");
+    let after = refusal(&mended(ticket, place, b"00"));
+    assert!(after == 0 || after == 17, "{input}: then {after}");
+}
+
+/// The place is the second of the last line, which begins at `start`. With the second of the line before the ticket is
+/// accepted.
+fn wrong_second(ticket: &[u8], start: usize, place: &Place, input: &str) {
+    let expected = (start + CARD_DIGITS, SECOND_DIGITS);
+    assert_eq!((place.offset, place.bytes), expected, "{input}");
+    let before = place.offset - line_bytes(edition(ticket));
+    let second_before = &ticket[before..before + SECOND_DIGITS];
+    assert_eq!(refusal(&mended(ticket, place, second_before)), 0, "{input}");
+}
+
+/// The ticket with these bytes at the named place.
+fn mended(ticket: &[u8], place: &Place, bytes: &[u8]) -> Vec<u8> {
+    let mut mended = ticket.to_vec();
+    mended[place.offset..place.offset + place.bytes].copy_from_slice(bytes);
+    mended
 }
 
 /// The ticket with another number of frames in its header.
@@ -125,8 +152,9 @@ fn is_good(ticket: &[u8], plan: &[u8]) -> bool {
 /// A printed plan with these cycles for a ticket's frames.
 fn printed(ticket: &[u8], plan: &[u16]) -> Vec<u8> {
     let mut text = format!("{:04X}\n", plan.iter().max().unwrap_or(&0));
-    for (position, (cycle, line)) in plan.iter().zip(ticket[HEADER_BYTES..].chunks(LINE_BYTES)).enumerate() {
-        let card = String::from_utf8_lossy(&line[..2]);
+    let lines = ticket[HEADER_BYTES..].chunks(line_bytes(edition(ticket)));
+    for (position, (cycle, line)) in plan.iter().zip(lines).enumerate() {
+        let card = String::from_utf8_lossy(&line[..CARD_DIGITS]);
         text += &format!("{position:04X}{card}{cycle:04X}\n");
     }
     text.into_bytes()

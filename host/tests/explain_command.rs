@@ -54,7 +54,7 @@ fn examples() {
         assert_eq!(said.contains(".plan: says the same refusal"), refused, "{said}");
         assert!(output.stderr.is_empty());
     }
-    assert!(tickets >= 6);
+    assert!(tickets >= 9);
 }
 
 /// 0 for a good ticket, with a valid plan or with none.

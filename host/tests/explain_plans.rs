@@ -71,6 +71,31 @@ fn either_case() {
     );
 }
 
+/// A ticket of edition 02: the plan has no seconds, and its cards are compared with the first digits of each line.
+#[test]
+fn beside_seconds() {
+    let ticket = "02000200020003\n0000000E10\n0000000E10\n0100000E11\n";
+    valid(
+        ticket,
+        "0002\n0000000001\n0001000002\n0002010002\n",
+        &[
+            "  It has 2 cycles, and no plan has fewer.",
+            "  Its peak, the most frames held right after a cycle, is 0.",
+        ],
+    );
+    at_fault(
+        ticket,
+        "0002\n0000000001\n0001010002\n0002010002\n",
+        &["  Line 3 has card 1. The ticket has card 0 at position 1."],
+    );
+    plan_says(
+        "02000200020002\n0000000E11\n0000000E10\n",
+        "FF11\n",
+        false,
+        &["a.plan: says the same refusal, FF11"],
+    );
+}
+
 /// The three faults that the checker names.
 #[test]
 fn verdicts() {

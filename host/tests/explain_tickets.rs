@@ -6,6 +6,7 @@ use dockplan::explain::{explain, File};
 const FIRST: &str = "01000200020003\n00\n00\n01\n";
 const SAVE: &str = "01010300030004\n00\n01\n02\n00\n";
 const KEEP: &str = "01020200020004\n00\n00\n00\n01\n";
+const SECONDS: &str = "02000200020003\n0000000E10\n0000000E10\n0100000E11\n";
 
 fn file(name: &str, bytes: &[u8]) -> File {
     File {
@@ -37,7 +38,7 @@ fn accepted_tickets() {
     accepted(
         FIRST,
         &[
-            "  It asks for a read plan of 3 frames on 2 cards, with a pool of 2 buffers.",
+            "  It is of edition 01 and asks for a read plan of 3 frames on 2 cards, with a pool of 2 buffers.",
             "  Frames on card 0: 2, card 1: 1.",
             "  The plan has 2 cycles.",
         ],
@@ -45,7 +46,7 @@ fn accepted_tickets() {
     accepted(
         SAVE,
         &[
-            "  It asks for a save plan of 4 frames on 3 cards, with a pool of 3 buffers.",
+            "  It is of edition 01 and asks for a save plan of 4 frames on 3 cards, with a pool of 3 buffers.",
             "  Frames on card 0: 2, cards 1 to 2: 1 each.",
             "  The plan has 2 cycles.",
         ],
@@ -53,9 +54,39 @@ fn accepted_tickets() {
     accepted(
         KEEP,
         &[
-            "  It asks for a save and keep plan of 4 frames on 2 cards, with a pool of 2 buffers.",
+            "  It is of edition 01 and asks for a save and keep plan of 4 frames on 2 cards, with a pool of 2 buffers.",
             "  Frames on card 0: 3, card 1: 1.",
             "  The plan has 2 cycles. 2 frames stay in the pool, with cycle 0.",
+        ],
+    );
+}
+
+/// Edition 02: the first and the last capture second, also where they are the same one, and none without frames.
+#[test]
+fn capture_seconds() {
+    accepted(
+        SECONDS,
+        &[
+            "  It is of edition 02 and asks for a read plan of 3 frames on 2 cards, with a pool of 2 buffers.",
+            "  Capture seconds: 00000E10 to 00000E11 hex, which is 3600 to 3601.",
+            "  Frames on card 0: 2, card 1: 1.",
+            "  The plan has 2 cycles.",
+        ],
+    );
+    accepted(
+        "02010100010001\n00fffffFFf\n",
+        &[
+            "  It is of edition 02 and asks for a save plan of 1 frame on 1 card, with a pool of 1 buffer.",
+            "  Capture seconds: FFFFFFFF to FFFFFFFF hex, which is 4294967295 to 4294967295.",
+            "  Frames on card 0: 1.",
+            "  The plan has 1 cycle.",
+        ],
+    );
+    accepted(
+        "02000100010000\n",
+        &[
+            "  It is of edition 02 and asks for a read plan of 0 frames on 1 card, with a pool of 1 buffer.",
+            "  The plan has 0 cycles.",
         ],
     );
 }
@@ -66,7 +97,7 @@ fn either_case() {
     accepted(
         "01001f00aB0003\n1e\n0A\n0a\n",
         &[
-            "  It asks for a read plan of 3 frames on 31 cards, with a pool of 171 buffers.",
+            "  It is of edition 01 and asks for a read plan of 3 frames on 31 cards, with a pool of 171 buffers.",
             "  Frames on card 10: 2, card 30: 1.",
             "  No frames on the other 29 cards.",
             "  The plan has 2 cycles.",
@@ -80,14 +111,14 @@ fn few_frames() {
     accepted(
         "01000100010000\n",
         &[
-            "  It asks for a read plan of 0 frames on 1 card, with a pool of 1 buffer.",
+            "  It is of edition 01 and asks for a read plan of 0 frames on 1 card, with a pool of 1 buffer.",
             "  The plan has 0 cycles.",
         ],
     );
     accepted(
         "01022004000001\n1F\n",
         &[
-            "  It asks for a save and keep plan of 1 frame on 32 cards, with a pool of 1024 buffers.",
+            "  It is of edition 01 and asks for a save and keep plan of 1 frame on 32 cards, with a pool of 1024 buffers.",
             "  Frames on card 31: 1.",
             "  No frames on the other 31 cards.",
             "  The plan has 0 cycles. 1 frame stays in the pool, with cycle 0.",
@@ -96,7 +127,7 @@ fn few_frames() {
     accepted(
         "01000200010001\n00\n",
         &[
-            "  It asks for a read plan of 1 frame on 2 cards, with a pool of 1 buffer.",
+            "  It is of edition 01 and asks for a read plan of 1 frame on 2 cards, with a pool of 1 buffer.",
             "  Frames on card 0: 1.",
             "  No frames on the other card.",
             "  The plan has 1 cycle.",
@@ -117,7 +148,7 @@ fn many_cards() {
     accepted(
         ticket(&round_robin),
         &[
-            "  It asks for a read plan of 4096 frames on 32 cards, with a pool of 1024 buffers.",
+            "  It is of edition 01 and asks for a read plan of 4096 frames on 32 cards, with a pool of 1024 buffers.",
             "  Frames on cards 0 to 31: 128 each.",
             "  The plan has 128 cycles.",
         ],
@@ -126,7 +157,7 @@ fn many_cards() {
     accepted(
         ticket(&card_c_has_c),
         &[
-            "  It asks for a read plan of 496 frames on 32 cards, with a pool of 1024 buffers.",
+            "  It is of edition 01 and asks for a read plan of 496 frames on 32 cards, with a pool of 1024 buffers.",
             "  Frames on card 1: 1, card 2: 2, card 3: 3, card 4: 4, card 5: 5, card 6: 6, card 7: 7, card 8: 8,",
             "    card 9: 9, card 10: 10, card 11: 11, card 12: 12, card 13: 13, card 14: 14, card 15: 15,",
             "    card 16: 16, card 17: 17, card 18: 18, card 19: 19, card 20: 20, card 21: 21, card 22: 22,",
@@ -252,14 +283,14 @@ fn headers_of_other_lengths() {
 #[test]
 fn refusals_2_and_3() {
     refused(
-        "02030000000000\n",
+        "03030000000000\n",
         &[
             "a.ticket: refused by 2 (FF02)",
-            "  The edition is not 01.",
+            "  The edition is not 1 to 2.",
             "  Place:    line 1, bytes 1 to 2; offsets 0 to 1 from the start of the file",
-            "  Found:    02 hex, which is 2",
-            "  Expected: the edition: 01 hex, which is 1",
-            "  Hint:     Only edition 01 is known.",
+            "  Found:    03 hex, which is 3",
+            "  Expected: the edition: 01 to 02 hex, which is 1 to 2",
+            "  Hint:     Only editions 01 and 02 are known.",
         ],
     );
     refused(
@@ -321,6 +352,12 @@ fn refused_by_7(ticket: &str, expected: &[&str]) {
     refused(ticket, &[&LINE_IS_WRONG[..], expected].concat());
 }
 
+fn refused_by_7_with_seconds(ticket: &str, expected: &[&str]) {
+    let [answer, _] = LINE_IS_WRONG;
+    let meaning = "  A frame line is missing, or it is not 10 digits and an end byte.";
+    refused(ticket, &[&[answer, meaning], expected].concat());
+}
+
 /// A malformed frame line: which byte of it, and what is wrong with the line.
 #[test]
 fn refusal_7() {
@@ -366,6 +403,81 @@ fn refusal_7() {
             "  Found:    carriage return 0D",
             "  Expected: the end byte 0A",
             "  Hint:     The line ends in a carriage return (0D). Each line must end in the end byte 0A alone.",
+        ],
+    );
+}
+
+/// The same for edition 02, whose lines have 10 digits.
+#[test]
+fn refusal_7_with_seconds() {
+    refused_by_7_with_seconds(
+        "02000200020002\n0000000E10\n0000000G10\n",
+        &[
+            "  Place:    line 3, byte 8; offset 33 from the start of the file",
+            "  Found:    'G'",
+            "  Expected: a digit, 0 to 9, A to F or a to f",
+        ],
+    );
+    refused_by_7_with_seconds(
+        "02000200020002\n0000000E10\n000000E10\n",
+        &[
+            "  Place:    line 3, byte 10; offset 35 from the start of the file",
+            "  Found:    the end byte 0A",
+            "  Expected: a digit, 0 to 9, A to F or a to f",
+            "  Hint:     The line is too short. It has only 9 digits.",
+        ],
+    );
+    refused_by_7_with_seconds(
+        "02000200020002\n0000000E10\n00000000E10\n",
+        &[
+            "  Place:    line 3, byte 11; offset 36 from the start of the file",
+            "  Found:    '0'",
+            "  Expected: the end byte 0A",
+            "  Hint:     The line is too long. It must have 10 digits.",
+        ],
+    );
+    refused_by_7_with_seconds(
+        "02000200020002\n0000000E10\n",
+        &[
+            "  Place:    line 3, byte 1; offset 26 from the start of the file",
+            "  Found:    the text ends here",
+            "  Expected: a digit, 0 to 9, A to F or a to f",
+            "  Hint:     The text ends early. It has 1 whole frame line; the header says 2 frames (0002 hex).",
+        ],
+    );
+}
+
+/// Lines of edition 01 under a header that says edition 02, the other way round, and a ticket with both.
+#[test]
+fn lines_of_another_edition() {
+    refused_by_7_with_seconds(
+        "02000200020003\n00\n00\n01\n",
+        &[
+            "  Place:    line 2, byte 3; offset 17 from the start of the file",
+            "  Found:    the end byte 0A",
+            "  Expected: a digit, 0 to 9, A to F or a to f",
+            "  Hint:     The line is too short. It has only 2 digits.",
+            "  Hint:     This is a line of edition 01. The header says edition 02.",
+        ],
+    );
+    refused_by_7(
+        "01000200020003\n0000000E10\n0000000E10\n0100000E11\n",
+        &[
+            "  Place:    line 2, byte 3; offset 17 from the start of the file",
+            "  Found:    '0'",
+            "  Expected: the end byte 0A",
+            "  Hint:     The line is too long. It must have 2 digits.",
+            "  Hint:     This is a line of edition 02. The header says edition 01.",
+        ],
+    );
+    refused_by_7(
+        "01000200020002\n00\n0000000E10\n",
+        &[
+            "  Place:    line 3, byte 3; offset 20 from the start of the file",
+            "  Found:    '0'",
+            "  Expected: the end byte 0A",
+            "  Hint:     The line is too long. It must have 2 digits.",
+            "  Hint:     This is a line of edition 02. The header says edition 01.",
         ],
     );
 }
@@ -439,6 +551,48 @@ fn refusal_8() {
     );
 }
 
+/// In edition 02 the card is the first 2 digits of the line. Its second may be too low as well: the card comes first.
+#[test]
+fn refusal_8_with_seconds() {
+    refused(
+        "02000200020002\n0000000E10\n0200000E0F\n",
+        &[
+            "a.ticket: refused by 8 (FF08)",
+            "  A card number is not below the number of cards.",
+            "  Place:    line 3, bytes 1 to 2; offsets 26 to 27 from the start of the file",
+            "  Found:    02 hex, which is 2",
+            "  Expected: a card: 00 to 01 hex, which is 0 to 1; the header says 2 cards",
+            "  Hint:     Cards are counted from 0, so the highest card is 1.",
+        ],
+    );
+}
+
+#[test]
+fn refusal_17() {
+    refused(
+        "02000200020003\n0000000E10\n0000000E11\n0100000e10\n",
+        &[
+            "a.ticket: refused by 17 (FF11)",
+            "  A capture second is lower than that of the line before.",
+            "  Place:    line 4, bytes 3 to 10; offsets 39 to 46 from the start of the file",
+            "  Found:    00000e10 hex, which is 3600",
+            "  Expected: a second not lower than that of the line before: 00000E11 hex, which is 3601",
+            "  Hint:     The frames are not in the order in which they were captured, or two tickets were put together.",
+        ],
+    );
+    refused(
+        "02000200020003\n00FFFFFFFF\n0000000000\n0100000000\n",
+        &[
+            "a.ticket: refused by 17 (FF11)",
+            "  A capture second is lower than that of the line before.",
+            "  Place:    line 3, bytes 3 to 10; offsets 28 to 35 from the start of the file",
+            "  Found:    00000000 hex, which is 0",
+            "  Expected: a second not lower than that of the line before: FFFFFFFF hex, which is 4294967295",
+            "  Hint:     The frames are not in the order in which they were captured, or two tickets were put together.",
+        ],
+    );
+}
+
 /// Bytes after the last line: a blank line, or more lines than the header says.
 #[test]
 fn refusal_9() {
@@ -470,4 +624,20 @@ fn refusal_9() {
             &[&head[..], &[place, &found, expected, &hint]].concat(),
         );
     }
+}
+
+/// The same for edition 02: its last line ends at another byte.
+#[test]
+fn refusal_9_with_seconds() {
+    refused(
+        format!("{SECONDS}0100000E12\n"),
+        &[
+            "a.ticket: refused by 9 (FF09)",
+            "  Bytes follow the last line.",
+            "  Place:    line 5, byte 1; offset 48 from the start of the file",
+            "  Found:    '0'",
+            "  Expected: the end of the text",
+            "  Hint:     The text has 1 line too many; the header says 3 frames (0003 hex).",
+        ],
+    );
 }

@@ -94,7 +94,7 @@ fn constants_are_those_of_the_header() {
         ("MAX_CARDS", 32),
         ("MAX_POOL", 1024),
         ("MAX_FRAMES", 4096),
-        ("MAX_TICKET_BYTES", 15 + 3 * 4096),
+        ("MAX_TICKET_BYTES", 15 + 11 * 4096),
         ("MAX_PRINTED_BYTES", 5 + 11 * 4096),
         ("READ", 0),
         ("SAVE", 1),

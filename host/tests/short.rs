@@ -1,5 +1,5 @@
 //! Every short list with every pool, and every plan for it: the checker and the run beside the reference.
-//! The search also shows that no correct schedule is shorter than the library's plan.
+//! The search also shows that no correct schedule is shorter than the library's plan, which is the same with seconds.
 
 use dockplan::raw::{self, CheckAnswer, RunAnswer};
 use dockplan::{reference, Cycle};
@@ -47,14 +47,27 @@ fn compare_list(mode: u8, cards: u8, m: u16, list: &[u16]) {
             shortest = shortest.min(checked.cycles.0);
         }
     }
-    let length = dockplan::plan(&ticket, &mut vec![0; list.len()]);
+    let (mut plan, mut same_plan) = (vec![0; list.len()], vec![0; list.len()]);
+    let length = dockplan::plan(&ticket, &mut plan);
     assert_eq!(length, Ok(Cycle(shortest)), "shortest plan: {input}");
+    let length = dockplan::plan(&ticket_with_seconds(mode, cards, m, list), &mut same_plan);
+    assert_eq!(length, Ok(Cycle(shortest)), "shortest plan, with seconds: {input}");
+    assert_eq!(plan, same_plan, "with seconds: {input}");
 }
 
 fn ticket(mode: u8, cards: u8, m: u16, list: &[u16]) -> Vec<u8> {
     let mut text = format!("01{mode:02X}{cards:02X}{m:04X}{:04X}\n", list.len());
     for card in list {
         text += &format!("{card:02X}\n");
+    }
+    text.into_bytes()
+}
+
+/// The ticket of edition 02 with the same numbers and list, and rising capture seconds.
+fn ticket_with_seconds(mode: u8, cards: u8, m: u16, list: &[u16]) -> Vec<u8> {
+    let mut text = format!("02{mode:02X}{cards:02X}{m:04X}{:04X}\n", list.len());
+    for (position, card) in list.iter().enumerate() {
+        text += &format!("{card:02X}{position:08X}\n");
     }
     text.into_bytes()
 }

@@ -72,12 +72,31 @@ fn an_empty_call_uses_nothing() {
 
 // ---- The inputs: those that make a call do all its work, and those that end it early ----
 
-fn ticket(mode: usize, pool: usize, list: &[usize]) -> Vec<u8> {
-    let mut text = format!("01{mode:02X}{MAX_CARDS:02X}{pool:04X}{:04X}\n", list.len());
-    for card in list {
-        text += &format!("{card:02X}\n");
+/// An edition, and the capture second that stands behind the card in each of its lines.
+struct Edition {
+    number: usize,
+    second: &'static str,
+}
+
+const EDITIONS: [Edition; 2] = [
+    Edition { number: 1, second: "" },
+    Edition {
+        number: 2,
+        second: "6AF30900",
+    },
+];
+
+impl Edition {
+    fn ticket(&self, mode: usize, pool: usize, list: &[usize]) -> Vec<u8> {
+        let frames = list.len();
+        let mut text = format!("{:02X}{mode:02X}{MAX_CARDS:02X}{pool:04X}{frames:04X}\n", self.number);
+        list.iter().for_each(|card| text += &self.line(&format!("{card:02X}")));
+        text.into_bytes()
     }
-    text.into_bytes()
+
+    fn line(&self, card: &str) -> String {
+        format!("{card}{}\n", self.second)
+    }
 }
 
 /// The longest lists, with all cards and with one, and the shortest.
@@ -90,31 +109,55 @@ fn lists() -> [Vec<usize>; 4] {
 
 fn accepted_tickets() -> Vec<Vec<u8>> {
     let mut tickets = Vec::new();
-    for mode in 0..3 {
-        for pool in [1, 192, MAX_POOL] {
-            tickets.extend(lists().iter().map(|list| ticket(mode, pool, list)));
+    for edition in EDITIONS {
+        for mode in 0..3 {
+            for pool in [1, 192, MAX_POOL] {
+                tickets.extend(lists().iter().map(|list| edition.ticket(mode, pool, list)));
+            }
         }
     }
     tickets
 }
 
-/// One ticket for each of the refusals 1 to 9; where lines are at fault, it is the last one.
+/// One ticket for each of the refusals 1 to 9 and 17; where lines are at fault, it is the last one, in each edition.
 fn refused_tickets() -> Vec<Vec<u8>> {
     let headers = [
         "0100020002000G",
-        "02000200020000",
+        "03000200020000",
         "01030200020000",
         "01002100020000",
         "01000204010000",
         "01000200021001",
     ];
     let mut tickets: Vec<Vec<u8>> = headers.iter().map(|header| format!("{header}\n").into()).collect();
-    let long = ticket(0, MAX_POOL, &lists()[0]);
-    let last_line = long.len() - 3;
-    for end in ["", "0G\n", "20\n", "00\n00\n"] {
-        tickets.push([&long[..last_line], end.as_bytes()].concat());
+    for edition in EDITIONS {
+        for end in [
+            "",
+            &edition.line("0G"),
+            &edition.line("20"),
+            &edition.line("00").repeat(2),
+        ] {
+            tickets.push(with_last_line(&edition, end));
+        }
     }
+    tickets.push(with_last_line(&EDITIONS[1], "0000000000\n"));
     tickets
+}
+
+/// The longest ticket of an edition with another text in the place of its last line.
+fn with_last_line(edition: &Edition, end: &str) -> Vec<u8> {
+    let long = edition.ticket(0, MAX_POOL, &lists()[0]);
+    let last_line = long.len() - edition.line("00").len();
+    [&long[..last_line], end.as_bytes()].concat()
+}
+
+#[test]
+fn the_refused_tickets_meet_every_refusal() {
+    let refusals = refused_tickets()
+        .iter()
+        .map(|ticket| unsafe { raw::dockplan_parse(ticket.as_ptr(), ticket.len()) }.refusal)
+        .collect::<Vec<u8>>();
+    assert_eq!(refusals, [1, 2, 3, 4, 5, 6, 7, 7, 8, 9, 7, 7, 8, 9, 17]);
 }
 
 fn tickets() -> Vec<Vec<u8>> {

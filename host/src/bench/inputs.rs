@@ -5,6 +5,9 @@ pub const MAX_POOL: usize = 1024;
 pub const MAX_FRAMES: usize = 4096;
 pub const MAX_PRINTED_BYTES: usize = 45061;
 
+/// The capture second of the first frame of a measured list.
+const FIRST_SECOND: usize = 0x6AF3_0900;
+
 /// Numbers that look random (xorshift).
 pub struct Random(u64);
 
@@ -37,6 +40,11 @@ impl List {
     pub fn ticket_with_pool(&self, mode: usize, pool: usize) -> Vec<u8> {
         ticket(mode, MAX_CARDS, pool, &self.cards)
     }
+
+    /// The same ticket in edition 2, with three frames captured in each second.
+    pub fn ticket_with_seconds(&self, mode: usize) -> Vec<u8> {
+        with_seconds(&self.ticket(mode), |position| FIRST_SECOND + position / 3)
+    }
 }
 
 /// The lists that are measured.
@@ -64,6 +72,18 @@ fn ticket(mode: usize, cards: usize, pool: usize, list: &[usize]) -> Vec<u8> {
     text.into_bytes()
 }
 
+/// The ticket of edition 2 with the same numbers and cards, and with this capture second for each position.
+fn with_seconds(ticket: &[u8], mut second: impl FnMut(usize) -> usize) -> Vec<u8> {
+    let text = String::from_utf8_lossy(ticket);
+    let mut lines = text.lines();
+    let numbers = lines.next().and_then(|header| header.strip_prefix("01"));
+    let mut twin = format!("02{}\n", numbers.unwrap_or_default());
+    for (position, card) in lines.enumerate() {
+        twin += &format!("{card}{:08X}\n", second(position));
+    }
+    twin.into_bytes()
+}
+
 /// Each frame on any card.
 fn random_list(random: &mut Random, cards: usize, frames: usize) -> Vec<usize> {
     (0..frames).map(|_| random.below(cards)).collect()
@@ -74,7 +94,7 @@ fn list_in_blocks(cards: usize, frames: usize, block: usize) -> Vec<usize> {
     (0..frames).map(|position| position / block % cards).collect()
 }
 
-/// A ticket that is accepted: mostly a short one with a small pool.
+/// A ticket that is accepted: mostly a short one with a small pool, of either edition.
 fn any_ticket(random: &mut Random) -> Vec<u8> {
     let cards = 1 + random.below(MAX_CARDS);
     let pool = 1 + if random.below(2) == 0 {
@@ -89,7 +109,15 @@ fn any_ticket(random: &mut Random) -> Vec<u8> {
     };
     let used = 1 + random.below(cards);
     let list = random_list(random, used, frames);
-    ticket(random.below(3), cards, pool, &list)
+    let text = ticket(random.below(3), cards, pool, &list);
+    if random.below(2) == 0 {
+        return text;
+    }
+    let mut second = random.below(1 << 31);
+    with_seconds(&text, |_| {
+        second += random.below(3);
+        second
+    })
 }
 
 /// A ticket that is accepted, or one time in three a damaged one; every second one is typed in lower case.

@@ -31,8 +31,10 @@ fn counted() -> Vec<&'static Implementation> {
 }
 
 fn compare_answers(lists: &[List], rows: &[Row]) -> Result<(), String> {
-    let tickets = lists.iter().flat_map(|list| rows::MODES.map(|mode| list.ticket(mode)));
-    compare::compare_all(&LIBRARY, &others(), &tickets.collect::<Vec<_>>(), MIXED_TICKETS)?;
+    let of_mode = |list: &List, mode| [list.ticket(mode), list.ticket_with_seconds(mode)];
+    let of_list = |list: &List| rows::MODES.map(|mode| of_mode(list, mode)).concat();
+    let tickets: Vec<Vec<u8>> = lists.iter().flat_map(of_list).collect();
+    compare::compare_all(&LIBRARY, &others(), &tickets, MIXED_TICKETS)?;
     rows.iter()
         .try_for_each(|row| compare::compare_check(&LIBRARY, &others(), &row.work.ticket, &row.work.checked))
 }

@@ -15,6 +15,7 @@ pub const FOREIGN_POOL: usize = 1000;
 
 /// The library's part of the faster C's time, and of the fewer instructions, that a row may reach.
 const READER_AND_PLANNER: f64 = 1.05;
+const EDITION_2: f64 = 1.10;
 const OTHERS: f64 = 1.10;
 
 /// A call, what it is given in words, and its target.
@@ -113,6 +114,26 @@ fn typed_row(list: &List) -> Row {
     }
 }
 
+/// The reader, the planner and the printed plan on the tickets of edition 02 with the same numbers and cards.
+fn seconds_rows(list: &List) -> Vec<Row> {
+    let row = |call, make| {
+        let ticket = list.ticket_with_seconds(READ);
+        let checked = own_plan(&LIBRARY, &ticket);
+        Row {
+            call,
+            given: format!("read, edition 02, {}", list.name),
+            target: EDITION_2,
+            make,
+            work: Work::new(ticket, checked),
+        }
+    };
+    vec![
+        row("reader", parse as fn(&Implementation, &mut Work)),
+        row("planner", plan),
+        row("printing", print),
+    ]
+}
+
 /// The checker on plans that are not ours, the dearest found.
 fn foreign_rows(list: &List) -> Vec<Row> {
     let plans = inputs::foreign_plans();
@@ -134,5 +155,6 @@ pub fn rows(lists: &[List]) -> Vec<Row> {
     let own = lists.iter().flat_map(own_rows);
     own.chain([typed_row(&lists[0])])
         .chain(foreign_rows(&lists[0]))
+        .chain(lists.iter().flat_map(seconds_rows))
         .collect()
 }

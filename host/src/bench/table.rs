@@ -118,8 +118,9 @@ pub fn print_head(c: &[Implementation], counted: bool) {
         "Rust-ref   src/reference by {}: simple and not tuned, its checker counts by the rule",
         first_line("rustc")
     );
-    println!("given      4,096 frames over 32 cards, and the kind of ticket; the checker also a plan: the planner's own, or a foreign one that is");
-    println!("           dear to check, its cycles falling in blocks of 1,000 frames or, where it is overfull late, in a last one of 1,096");
+    println!("given      4,096 frames over 32 cards, and the kind of ticket, of edition 01 where none is named; the checker also a plan: the");
+    println!("           planner's own, or a foreign one that is dear to check, its cycles falling in blocks of 1,000 frames or, where it is");
+    println!("           overfull late, in a last one of 1,096");
     println!("ns         nanoseconds a frame: the least of {TURNS} runs of 0.25 ms, all taken in turns; buffers are not cleared between calls");
     println!(
         "in         instructions a frame, {}",

@@ -1,9 +1,11 @@
-//! What is said of an accepted ticket: what it asks for, its frames on each card, and how many cycles its plan has.
-//! All numbers are the library's.
+//! What is said of an accepted ticket: what it asks for, its capture seconds, its frames on each card, and how many
+//! cycles its plan has. All numbers are the library's.
 
-use super::shown::count;
+use super::digits::long_number;
+use super::place::{CARD_DIGITS, SECOND_DIGITS};
+use super::shown::{count, range};
 use super::{READ, SAVE, SAVE_AND_KEEP};
-use crate::Ticket;
+use crate::{Position, Ticket};
 
 /// The lines about the frames of each card are about this long at most.
 const WIDTH: usize = 100;
@@ -11,6 +13,7 @@ const WIDTH: usize = 100;
 /// What is said of a ticket of which the library read these numbers.
 pub fn lines(ticket: &[u8], read: &Ticket) -> Vec<String> {
     let mut lines = vec![asks_for(read)];
+    lines.extend(seconds(ticket, read));
     if let Ok(counts) = crate::counts(ticket) {
         lines.extend(on_cards(&counts, read.cards));
     }
@@ -24,10 +27,24 @@ fn asks_for(read: &Ticket) -> String {
         SAVE => "save plan",
         _ => "save and keep plan",
     };
+    let edition = read.edition;
     let frames = count(read.frames.into(), "frame");
     let cards = count(read.cards.into(), "card");
     let buffers = count(read.pool.into(), "buffer");
-    format!("It asks for a {plan} of {frames} on {cards}, with a pool of {buffers}.")
+    format!("It is of edition {edition:02X} and asks for a {plan} of {frames} on {cards}, with a pool of {buffers}.")
+}
+
+/// The first and the last capture second, which is also the largest. Edition 01 has none.
+fn seconds(ticket: &[u8], read: &Ticket) -> Option<String> {
+    let first = second(ticket, 0)?;
+    let last = second(ticket, read.frames.checked_sub(1)?)?;
+    Some(format!("Capture seconds: {}.", range(first, last, SECOND_DIGITS)))
+}
+
+/// The capture second of the frame at a position, from the line that the library hands back.
+fn second(ticket: &[u8], position: u16) -> Option<u32> {
+    let line = crate::line(ticket, Position(position)).ok()?;
+    long_number(line.get(CARD_DIGITS..)?.get(..SECOND_DIGITS)?)
 }
 
 fn plan_has(ticket: &[u8], read: &Ticket) -> Option<String> {

@@ -16,10 +16,14 @@ pub fn digit(byte: u8) -> Option<u32> {
 
 /// The number that at most 4 digits stand for, or none where a byte is no digit.
 pub fn number(digits: &[u8]) -> Option<u16> {
-    let value = digits
+    u16::try_from(long_number(digits)?).ok()
+}
+
+/// The same for at most 8 digits.
+pub fn long_number(digits: &[u8]) -> Option<u32> {
+    digits
         .iter()
-        .try_fold(0, |value: u32, &byte| value.checked_mul(16)?.checked_add(digit(byte)?))?;
-    u16::try_from(value).ok()
+        .try_fold(0, |value: u32, &byte| value.checked_mul(16)?.checked_add(digit(byte)?))
 }
 
 /// For a line of that many digits and an end byte, from `start` on: the offset of the first byte that is another.

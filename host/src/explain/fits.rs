@@ -2,6 +2,7 @@
 //! The checker sees cycles alone, so this is asked before it.
 
 use super::digits::number;
+use super::place::CARD_DIGITS;
 use super::printed::{line_of, Frame};
 use super::shown::count;
 use crate::{Position, Ticket};
@@ -40,7 +41,7 @@ fn line(ticket: &[u8], position: u16, frame: &Frame) -> Result<(), Vec<String>> 
     }
 }
 
-/// The card of the frame at a position, from the line that the library hands back.
+/// The card of the frame at a position, from the line that the library hands back: its first digits in every edition.
 fn card(ticket: &[u8], position: u16) -> Option<u16> {
-    number(crate::line(ticket, Position(position)).ok()?)
+    number(crate::line(ticket, Position(position)).ok()?.get(..CARD_DIGITS)?)
 }

@@ -1,7 +1,7 @@
 //! The commonest causes of a refusal, seen from what stands at its place. Often there is none to name.
 //! A hint is a guess about how the text was made; what is wrong with it is said without it.
 
-use super::digits::{digit, number, END};
+use super::digits::{digit, first_wrong, number, END};
 use super::place::{self, Expected, Place};
 use super::shown::{byte_order_mark, count};
 
@@ -47,15 +47,16 @@ pub fn of_ticket(ticket: &[u8], place: &Place) -> Vec<String> {
     let cause = match &place.expected {
         Expected::Field(field) => of_field(ticket, field),
         Expected::CardBelow(cards) => of_card(ticket, place, *cards),
+        Expected::SecondFrom(_) => Some(of_falling_second()),
         Expected::EndOfText => Some(of_bytes_after(ticket, place)),
-        Expected::Digit | Expected::EndByte => return of_early_end(ticket, place),
+        Expected::Digit | Expected::EndByte => return of_line(ticket, place),
     };
     cause.into_iter().collect()
 }
 
 fn of_field(ticket: &[u8], field: &place::Field) -> Option<String> {
     match field.refusal {
-        2 => Some("Only edition 01 is known.".to_string()),
+        2 => Some("Only editions 01 and 02 are known.".to_string()),
         3 => Some("The modes are 00 read, 01 save, 02 save and keep.".to_string()),
         _ => meant_as_decimal(ticket.get(field.range())?, field.least, field.most),
     }
@@ -80,9 +81,34 @@ fn meant_as_decimal(digits: &[u8], least: u16, most: u16) -> Option<String> {
         .then(|| format!("Numbers are hexadecimal. If {text} was meant as a decimal number, write {decimal:0width$X}."))
 }
 
+fn of_falling_second() -> String {
+    "The frames are not in the order in which they were captured, or two tickets were put together.".to_string()
+}
+
+/// A line that is not digits and an end byte. The header has no causes here.
+fn of_line(ticket: &[u8], place: &Place) -> Vec<String> {
+    let Some(position) = place.line.checked_sub(2) else {
+        return Vec::new();
+    };
+    let mut hints = of_early_end(ticket, place, position);
+    hints.extend(of_other_edition(ticket, position));
+    hints
+}
+
+/// The line is a whole one of another edition than the header says.
+fn of_other_edition(ticket: &[u8], position: usize) -> Option<String> {
+    let own = place::edition(ticket);
+    let start = place::line(ticket, position).start;
+    let is_line_of = |edition: &u16| first_wrong(ticket, start, place::line_digits(*edition)).is_none();
+    let other = (place::EDITION.least..=place::EDITION.most).find(is_line_of)?;
+    Some(format!(
+        "This is a line of edition {other:02X}. The header says edition {own:02X}."
+    ))
+}
+
 /// The text ends within the frame lines. Where only the last end byte is missing, that is said already.
-fn of_early_end(ticket: &[u8], place: &Place) -> Vec<String> {
-    let (Some(position), Some(frames)) = (place.line.checked_sub(2), place::frames(ticket)) else {
+fn of_early_end(ticket: &[u8], place: &Place, position: usize) -> Vec<String> {
+    let Some(frames) = place::frames(ticket) else {
         return Vec::new();
     };
     let is_last_end = place.expected == Expected::EndByte && position + 1 == usize::from(frames);

@@ -1,7 +1,7 @@
 //! What is said of a refused ticket: what the refusal means, its place, and the commonest cause where one applies.
 //! The limits in the words are those of place.rs.
 
-use super::place::{self, Expected, Place, HEADER_DIGITS, LINE_DIGITS};
+use super::place::{self, Expected, Place, HEADER_DIGITS};
 use super::{hints, shown};
 
 /// A refusal as it is printed: FF and its number in 2 digits.
@@ -14,27 +14,27 @@ pub fn lines(ticket: &[u8], refusal: u8) -> Vec<String> {
     let Some(place) = place::find(ticket, refusal) else {
         return vec!["Its place was not found.".to_string()];
     };
-    let mut lines = vec![meaning(refusal, &place)];
+    let mut lines = vec![meaning(ticket, refusal, &place)];
     lines.extend(shown::lines(ticket, &place));
     lines.extend(hint_lines(ticket, &place));
     lines
 }
 
 /// The refusal in words.
-fn meaning(refusal: u8, place: &Place) -> String {
+fn meaning(ticket: &[u8], refusal: u8, place: &Place) -> String {
     match place.expected {
-        Expected::Field(field) if field.least == field.most => {
-            let width = field.digits;
-            format!("The {} is not {:0width$X}.", field.name, field.most)
-        }
         Expected::Field(field) => format!("The {} is not {} to {}.", field.name, field.least, field.most),
         Expected::CardBelow(_) => "A card number is not below the number of cards.".to_string(),
+        Expected::SecondFrom(_) => "A capture second is lower than that of the line before.".to_string(),
         Expected::EndOfText => "Bytes follow the last line.".to_string(),
         _ if refusal == 1 => {
             let bytes = HEADER_DIGITS + 1;
             format!("The first {bytes} bytes are not {HEADER_DIGITS} digits and an end byte.")
         }
-        _ => format!("A frame line is missing, or it is not {LINE_DIGITS} digits and an end byte."),
+        _ => {
+            let digits = place::line_digits(place::edition(ticket));
+            format!("A frame line is missing, or it is not {digits} digits and an end byte.")
+        }
     }
 }
 

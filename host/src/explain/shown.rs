@@ -1,8 +1,8 @@
 //! A place in words: where it is, what stands there, and what was expected. For tickets and for printed plans.
 //! A byte is shown by its sign or its name, and otherwise in 2 digits.
 
-use super::digits::{number, END};
-use super::place::{Expected, Place, LINE_DIGITS};
+use super::digits::{long_number, END};
+use super::place::{Expected, Place, CARD_DIGITS, SECOND_DIGITS};
 
 /// The marks that some editors put before a text.
 const BYTE_ORDER_MARKS: [(&[u8], &str); 3] = [
@@ -51,8 +51,8 @@ fn position(place: &Place) -> String {
 
 fn found(text: &[u8], place: &Place) -> String {
     let bytes = text.get(place.offset..place.offset + place.bytes).unwrap_or_default();
-    match (&place.expected, number(bytes)) {
-        (Expected::Field(_) | Expected::CardBelow(_), Some(value)) => {
+    match (&place.expected, long_number(bytes)) {
+        (Expected::Field(_) | Expected::CardBelow(_) | Expected::SecondFrom(_), Some(value)) => {
             format!("{} hex, which is {value}", String::from_utf8_lossy(bytes))
         }
         _ => byte_order_mark(text)
@@ -83,23 +83,26 @@ fn expected(expected: &Expected) -> String {
     match expected {
         Expected::Digit => "a digit, 0 to 9, A to F or a to f".to_string(),
         Expected::EndByte => "the end byte 0A".to_string(),
-        Expected::Field(field) if field.least == field.most => {
-            let (value, width) = (field.most, field.digits);
-            format!("the {}: {value:0width$X} hex, which is {value}", field.name)
+        Expected::Field(field) => {
+            let limits = range(field.least.into(), field.most.into(), field.digits);
+            format!("the {}: {limits}", field.name)
         }
-        Expected::Field(field) => format!("the {}: {}", field.name, range(field.least, field.most, field.digits)),
         Expected::CardBelow(cards) => {
             let highest = cards.saturating_sub(1);
             format!(
                 "a card: {}; the header says {}",
-                range(0, highest, LINE_DIGITS),
+                range(0, highest.into(), CARD_DIGITS),
                 count((*cards).into(), "card")
             )
+        }
+        Expected::SecondFrom(before) => {
+            format!("a second not lower than that of the line before: {before:0SECOND_DIGITS$X} hex, which is {before}")
         }
         Expected::EndOfText => "the end of the text".to_string(),
     }
 }
 
-fn range(least: u16, most: u16, width: usize) -> String {
+/// Two numbers in so many digits, and in decimal.
+pub fn range(least: u32, most: u32, width: usize) -> String {
     format!("{least:0width$X} to {most:0width$X} hex, which is {least} to {most}")
 }

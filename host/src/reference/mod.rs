@@ -1,6 +1,6 @@
 //! The calls a second time, written from documents 01 and 02 alone and close to their words. It is simple rather than fast.
 //! Each answer is the whole struct of the C call, so that the zeros beside a refusal are compared too.
-//! Edition 1 of the ticket only.
+//! Editions 01 and 02 of the ticket.
 
 mod checker;
 mod dock;
@@ -14,7 +14,7 @@ pub use saver::Saver;
 use crate::raw::{CheckAnswer, CountsAnswer, Cycle, Part, PlanAnswer, Position, RunAnswer, TicketAnswer};
 use ticket::Ticket;
 
-/// "Tickets: 1 to 6, then line by line 7 before 8, then 9."
+/// "Tickets: 1 to 6, then line by line 7 before 8, then 9", with 17 "after 7 and 8 of the same line".
 pub fn parse(ticket: &[u8]) -> TicketAnswer {
     match Ticket::read(ticket) {
         Ok(read) => TicketAnswer {

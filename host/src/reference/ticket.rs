@@ -1,4 +1,5 @@
-//! The ticket of edition 1: what its bytes say, and the grounds for turning it down (1 to 9, and 16 for a line).
+//! The ticket, editions 01 and 02: what its bytes say, and the grounds for turning it down (1 to 9 and 17, and 16 for a
+//! line).
 
 use crate::raw::{Part, Position};
 
@@ -10,20 +11,24 @@ pub const SAVE_AND_KEEP: u8 = 2;
 const END: u8 = 0x0A;
 /// "The header has 14 digits", and an end byte follows.
 const HEADER_BYTES: usize = 15;
-/// "One line of 2 digits follows for each frame", with its end byte.
-const LINE_BYTES: usize = 3;
+/// A line begins with "the card (2)".
+const CARD_DIGITS: usize = 2;
+/// "The capture second (8)" follows it in edition 02.
+const SECOND_DIGITS: usize = 8;
 
-/// An accepted ticket. The list has the card of each frame, in list order.
+/// An accepted ticket. The list has the card of each frame, in list order. "The second has no say in the plan": it is
+/// read for 17 alone.
 pub struct Ticket {
     pub edition: u8,
     pub mode: u8,
     pub cards: u8,
     pub pool: u16,
     pub list: Vec<u8>,
+    line_digits: usize,
 }
 
 impl Ticket {
-    /// The table of refusals: "1 to 6, then line by line 7 before 8, then 9".
+    /// The table of refusals: "1 to 6, then line by line 7 before 8, then 9"; and 17 "after 7 and 8 of the same line".
     pub fn read(ticket: &[u8]) -> Result<Ticket, u8> {
         let digits = line_of_digits(ticket.get(..HEADER_BYTES)).ok_or(1)?;
         let edition = number(&digits[0..2]);
@@ -31,9 +36,7 @@ impl Ticket {
         let cards = number(&digits[4..6]);
         let pool = number(&digits[6..10]);
         let frames = number(&digits[10..14]);
-        if edition != 1 {
-            return Err(2);
-        }
+        let line_digits = line_digits(edition).ok_or(2)?;
         if mode > 2 {
             return Err(3);
         }
@@ -46,13 +49,14 @@ impl Ticket {
         if frames > 4096 {
             return Err(6);
         }
-        let list = read_list(&ticket[HEADER_BYTES..], frames, cards)?;
+        let list = read_list(&ticket[HEADER_BYTES..], line_digits, frames, cards)?;
         Ok(Ticket {
             edition: edition as u8,
             mode: mode as u8,
             cards: cards as u8,
             pool: pool as u16,
             list,
+            line_digits,
         })
     }
 
@@ -66,18 +70,36 @@ impl Ticket {
     }
 }
 
-/// "Frame lines are read from the part of the ticket that starts after its header": 7 before 8 in each line, then 9.
-fn read_list(after_header: &[u8], frames: u32, cards: u32) -> Result<Vec<u8>, u8> {
+/// "The edition in the header decides": the digits of each frame line, or none for an edition "neither 01 nor 02".
+fn line_digits(edition: u32) -> Option<usize> {
+    match edition {
+        1 => Some(CARD_DIGITS),
+        2 => Some(CARD_DIGITS + SECOND_DIGITS),
+        _ => None,
+    }
+}
+
+/// "Frame lines are read from the part of the ticket that starts after its header": in each line 7 before 8 before 17,
+/// then 9. No second is lower than the 0 before the first line. In edition 01 no digits follow the card, which is the
+/// number 0 on every line.
+fn read_list(after_header: &[u8], line_digits: usize, frames: u32, cards: u32) -> Result<Vec<u8>, u8> {
+    let line_bytes = line_digits + 1;
     let mut rest = after_header;
     let mut list = Vec::new();
+    let mut second_before = 0;
     for _ in 0..frames {
-        let digits = line_of_digits(rest.get(..LINE_BYTES)).ok_or(7)?;
-        let card = number(digits);
+        let digits = line_of_digits(rest.get(..line_bytes)).ok_or(7)?;
+        let (card, second) = digits.split_at(CARD_DIGITS);
+        let (card, second) = (number(card), number(second));
         if card >= cards {
             return Err(8);
         }
+        if second < second_before {
+            return Err(17);
+        }
+        second_before = second;
         list.push(card as u8);
-        rest = &rest[LINE_BYTES..];
+        rest = &rest[line_bytes..];
     }
     if !rest.is_empty() {
         return Err(9);
@@ -94,8 +116,8 @@ pub fn line(ticket: &[u8], position: Position) -> Result<Part, u8> {
         return Err(16);
     }
     Ok(Part {
-        offset: HEADER_BYTES + LINE_BYTES * position,
-        length: LINE_BYTES - 1,
+        offset: HEADER_BYTES + (read.line_digits + 1) * position,
+        length: read.line_digits,
     })
 }
 

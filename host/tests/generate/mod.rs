@@ -41,4 +41,9 @@ impl Random {
     pub fn byte(&mut self) -> u8 {
         self.next() as u8
     }
+
+    /// Any capture second.
+    pub fn second(&mut self) -> u32 {
+        self.next() as u32
+    }
 }

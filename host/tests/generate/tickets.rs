@@ -1,6 +1,27 @@
-//! Tickets: valid ones of every size, fields at their limits and one past, damaged ones, and bytes that are no ticket.
+//! Tickets of both editions: valid ones of every size, fields at their limits and one past, falling seconds, lines of
+//! the other edition, damaged ones, and bytes that are no ticket.
 
 use super::Random;
+
+/// The bytes of the header: 14 digits and the end byte.
+pub const HEADER_BYTES: usize = 15;
+
+/// The digits of a card, at the start of a frame line, and of the capture second that follows it in edition 02.
+pub const CARD_DIGITS: usize = 2;
+pub const SECOND_DIGITS: usize = 8;
+
+/// A frame's line as its edition has it. Whoever needs the width of a line takes it from here.
+pub fn line(edition: usize, card: usize, second: u32) -> String {
+    match edition {
+        1 => format!("{card:0CARD_DIGITS$X}\n"),
+        _ => format!("{card:0CARD_DIGITS$X}{second:0SECOND_DIGITS$X}\n"),
+    }
+}
+
+/// The bytes of a frame line, its end byte too.
+pub fn line_bytes(edition: usize) -> usize {
+    line(edition, 0, 0).len()
+}
 
 /// A ticket's numbers before they are written down. They may be out of range.
 struct Fields {
@@ -10,16 +31,21 @@ struct Fields {
     pool: usize,
     frames: usize,
     list: Vec<usize>,
+    seconds: Vec<u32>,
+    /// The edition whose lines are written. In a valid ticket it is the header's.
+    edition_of_lines: usize,
 }
 
 /// Any bytes at all, and most often something close to a ticket, typed in either case.
 pub fn any(random: &mut Random) -> Vec<u8> {
-    let ticket = match random.below(20) {
-        0..=10 => valid(random),
-        11..=13 => written(&with_field_at_limit(random)),
-        14..=16 => damaged(random),
-        17 => with_bad_card(random),
-        18 => with_bytes_after(random),
+    let ticket = match random.below(24) {
+        0..=12 => valid(random),
+        13..=15 => written(&with_field_at_limit(random)),
+        16..=18 => damaged(random),
+        19 => with_bad_card(random),
+        20 => with_bytes_after(random),
+        21 => with_falling_second(random),
+        22 => with_lines_of_other_edition(random),
         _ => no_ticket(random),
     };
     typed(random, ticket)
@@ -39,13 +65,16 @@ fn fields(random: &mut Random, frames: usize) -> Fields {
     };
     let pool = pool(random, frames);
     let list = list(random, cards, frames);
+    let edition = random.between(1, 2);
     Fields {
-        edition: 1,
+        edition,
         mode: random.below(3),
         cards,
         pool,
         frames,
         list,
+        seconds: seconds(random, frames),
+        edition_of_lines: edition,
     }
 }
 
@@ -94,6 +123,32 @@ fn list(random: &mut Random, cards: usize, frames: usize) -> Vec<usize> {
         .collect()
 }
 
+/// Capture seconds that do not fall: from any first one on, all equal, in small steps or in large ones, and equal again
+/// once the largest is reached.
+fn seconds(random: &mut Random, frames: usize) -> Vec<u32> {
+    let mut next = second(random);
+    let most = random.pick(&[0, 1, 2, 0x100, 0x1_0000, 0x1000_0000]);
+    (0..frames)
+        .map(|_| {
+            let own = next;
+            next = own.saturating_add(random.between(0, most) as u32);
+            own
+        })
+        .collect()
+}
+
+/// Any second, or one next to where a careless reader goes wrong: at the ends, at the end of the lower half, and at the
+/// lowest number that is negative for one who reads a sign.
+fn second(random: &mut Random) -> u32 {
+    const ENDS: [u32; 4] = [0, 1, u32::MAX - 1, u32::MAX];
+    const WITHIN: [u32; 4] = [0xFFFF, 0x1_0000, 0x7FFF_FFFF, 0x8000_0000];
+    match random.below(4) {
+        0 => random.pick(&ENDS),
+        1 => random.pick(&WITHIN),
+        _ => random.second(),
+    }
+}
+
 /// The ticket's text. Each number has its digits, even where it is out of range.
 fn written(fields: &Fields) -> Vec<u8> {
     let Fields {
@@ -103,10 +158,12 @@ fn written(fields: &Fields) -> Vec<u8> {
         pool,
         frames,
         list,
+        seconds,
+        edition_of_lines,
     } = fields;
     let mut text = format!("{edition:02X}{mode:02X}{cards:02X}{pool:04X}{frames:04X}\n");
-    for card in list {
-        text += &format!("{card:02X}\n");
+    for (&card, &second) in list.iter().zip(seconds) {
+        text += &line(*edition_of_lines, card, second);
     }
     text.into_bytes()
 }
@@ -130,7 +187,7 @@ fn with_field_at_limit(random: &mut Random) -> Fields {
     let mut fields = fields(random, frames);
     for _ in 0..random.between(1, 2) {
         match random.below(6) {
-            0 => fields.edition = random.pick(&[0, 2, 0x10, 0x11, 0xFF]),
+            0 => fields.edition = random.pick(&[0, 1, 2, 3, 3, 0x10, 0x11, 0x12, 0x20, 0xFF]),
             1 => fields.mode = random.pick(&[0, 2, 3, 3, 4, 0x10, 0xFF]),
             2 => fields.cards = random.pick(&[0, 1, 32, 33, 33, 34, 0xFF]),
             3 => fields.pool = random.pick(&[0, 0, 1, 1024, 1025, 1025, 1026, 0xFFFF]),
@@ -214,12 +271,58 @@ fn with_bad_card(random: &mut Random) -> Vec<u8> {
     ticket
 }
 
-/// Bytes after the last line: one byte, a whole line, or many bytes.
+/// A second that is lower than the one before: on the second line, on the last, or between them. Sometimes the line has
+/// a card that is too high as well, or a wrong byte.
+fn with_falling_second(random: &mut Random) -> Vec<u8> {
+    let frames = random.between(2, 20);
+    let mut fields = fields(random, frames);
+    (fields.edition, fields.edition_of_lines) = (2, 2);
+    let position = match random.below(3) {
+        0 => 1,
+        1 => frames - 1,
+        _ => random.between(1, frames - 1),
+    };
+    let (before, lower) = falling(random);
+    for second in &mut fields.seconds[..position] {
+        *second = before.min(*second);
+    }
+    fields.seconds[position - 1] = before;
+    fields.seconds[position] = lower;
+    if random.once_in(4) {
+        fields.list[position] = random.pick(&[fields.cards, 0xFF]);
+    }
+    let mut ticket = written(&fields);
+    if random.once_in(4) {
+        let width = line_bytes(fields.edition);
+        ticket[HEADER_BYTES + width * position + random.below(width)] = near_miss(random);
+    }
+    ticket
+}
+
+/// A second and a lower one: by one, by any difference, or the largest and the least.
+fn falling(random: &mut Random) -> (u32, u32) {
+    let before = second(random).max(1);
+    match random.below(4) {
+        0 | 1 => (before, before - 1),
+        2 => (before, random.below(before as usize) as u32),
+        _ => (u32::MAX, 0),
+    }
+}
+
+/// A good ticket whose header says the other edition. Without frames it is good all the same.
+fn with_lines_of_other_edition(random: &mut Random) -> Vec<u8> {
+    let frames = random.below(20);
+    let mut fields = fields(random, frames);
+    fields.edition_of_lines = 3 - fields.edition;
+    written(&fields)
+}
+
+/// Bytes after the last line: one byte, a whole line of either edition, or many bytes.
 fn with_bytes_after(random: &mut Random) -> Vec<u8> {
     let mut ticket = valid(random);
     match random.below(4) {
         0 => ticket.push(near_miss(random)),
-        1 => ticket.extend(b"00\n"),
+        1 => ticket.extend(line(random.between(1, 2), 0, u32::MAX).bytes()),
         2 => ticket.push(b'\n'),
         _ => {
             let more = if random.once_in(50) {
@@ -236,18 +339,25 @@ fn with_bytes_after(random: &mut Random) -> Vec<u8> {
 /// Random bytes, random digits, or a header line of random digits with random lines behind it.
 fn no_ticket(random: &mut Random) -> Vec<u8> {
     let bytes = random.below(80);
+    let edition = random.between(1, 2);
     match random.below(4) {
         0 => (0..bytes).map(|_| random.byte()).collect(),
         1 => (0..bytes).map(|_| digit(random)).collect(),
-        2 => (0..bytes)
-            .map(|place| if place % 3 == 2 { b'\n' } else { digit(random) })
-            .collect(),
+        2 => random_lines(random, edition, bytes),
         _ => {
-            let mut ticket: Vec<u8> = (0..14).map(|_| digit(random)).collect();
-            ticket[..2].copy_from_slice(b"01");
+            let mut ticket = format!("{edition:02X}").into_bytes();
+            ticket.resize_with(HEADER_BYTES - 1, || digit(random));
             ticket.push(b'\n');
-            ticket.extend((0..bytes).map(|place| if place % 3 == 2 { b'\n' } else { digit(random) }));
+            ticket.extend(random_lines(random, edition, bytes));
             ticket
         }
     }
+}
+
+/// Random digits, with an end byte wherever a line of the edition has it.
+fn random_lines(random: &mut Random, edition: usize, bytes: usize) -> Vec<u8> {
+    let width = line_bytes(edition);
+    (1..=bytes)
+        .map(|place| if place % width == 0 { b'\n' } else { digit(random) })
+        .collect()
 }

@@ -11,7 +11,7 @@ use dockplan::reference;
 pub fn compare(random: &mut Random, ticket: &[u8], tally: &mut Tally) -> TicketAnswer {
     let header = library::parse(ticket);
     same(ticket, "parse", &header, &reference::parse(ticket));
-    tally.ticket(header.refusal);
+    tally.ticket(ticket, header.refusal);
     same(ticket, "counts", &library::counts(ticket), &reference::counts(ticket));
     for position in positions(random, header.frames) {
         compare_line(ticket, position, tally);

@@ -2,6 +2,7 @@
 //! Each answer is compared with its whole record.
 
 use super::{same, with_mode};
+use crate::generate::tickets::CARD_DIGITS;
 use crate::generate::Random;
 use crate::library;
 use crate::tally::Tally;
@@ -71,11 +72,11 @@ pub fn compare_list(ticket: &[u8], tally: &mut Tally) {
     same(ticket, "closing", &written, &plan_of_mode(ticket, 1, header.frames));
 }
 
-/// The cards of an accepted ticket's list: its lines after the header.
+/// The cards of an accepted ticket's list: the first digits of its lines after the header.
 fn cards_of(ticket: &[u8]) -> Vec<u8> {
     let text = std::str::from_utf8(ticket).unwrap();
-    let lines = text.lines().skip(1);
-    lines.map(|card| u8::from_str_radix(card, 16).unwrap()).collect()
+    let cards = text.lines().skip(1).map(|line| &line[..CARD_DIGITS]);
+    cards.map(|card| u8::from_str_radix(card, 16).unwrap()).collect()
 }
 
 /// Notes the cycle of each frame that a call wrote.

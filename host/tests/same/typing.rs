@@ -1,7 +1,7 @@
 //! "A plan depends on the values alone": a ticket and the same ticket in upper case get the same answers from every call,
 //! and a line that is handed back has the caller's own bytes.
 
-use super::same;
+use super::{answered_alike, same};
 use crate::library;
 use crate::tally::Tally;
 use dockplan::raw::Position;
@@ -11,21 +11,7 @@ pub fn compare(ticket: &[u8], frames: u16, plan: &[u16], tally: &mut Tally) {
     let upper: Vec<u8> = ticket.iter().map(|&byte| upper(byte)).collect();
     tally.typed(ticket, &upper, frames);
     same(ticket, "parse", &library::parse(ticket), &library::parse(&upper));
-    same(ticket, "counts", &library::counts(ticket), &library::counts(&upper));
-    same(ticket, "plan", &planned(ticket, frames), &planned(&upper, frames));
-    same(ticket, "print", &printed(ticket, frames), &printed(&upper, frames));
-    same(
-        ticket,
-        "check",
-        &library::check(ticket, plan),
-        &library::check(&upper, plan),
-    );
-    same(
-        ticket,
-        "run",
-        &library::run_plan(ticket, plan),
-        &library::run_plan(&upper, plan),
-    );
+    answered_alike(ticket, &upper, frames, plan);
     for position in [0, frames / 2, frames].map(Position) {
         let part = library::line(ticket, position);
         same(ticket, "line", &part, &library::line(&upper, position));
@@ -46,15 +32,4 @@ fn upper(byte: u8) -> u8 {
     } else {
         byte
     }
-}
-
-fn planned(ticket: &[u8], frames: u16) -> (u8, u16, Vec<u16>) {
-    let mut plan = vec![0; frames.into()];
-    let answer = library::plan(ticket, &mut plan);
-    (answer.refusal, answer.cycles.0, plan)
-}
-
-fn printed(ticket: &[u8], frames: u16) -> (usize, Vec<u8>) {
-    let mut text = vec![0; 5 + 11 * usize::from(frames)];
-    (library::print(ticket, &mut text), text)
 }

@@ -12,9 +12,14 @@ pub struct Tally {
     /// Tickets with a small letter among their digits, and of these the accepted ones with frames.
     small_letters: u64,
     small_letters_accepted: u64,
-    /// By number. A ticket's own refusal counts once for the ticket.
-    refusals: [u64; 17],
-    saver_refusals: [u64; 17],
+    /// Accepted tickets of edition 02 with frames, beside their twins of edition 01.
+    pub twins: u64,
+    /// By the edition that the ticket's first digits say, 0 for any other, and by number. A ticket's own refusal counts
+    /// once for the ticket, 0 being none.
+    of_editions: [[u64; NUMBERS]; 3],
+    /// By number. A ticket's own refusals are those above.
+    later_refusals: [u64; NUMBERS],
+    saver_refusals: [u64; NUMBERS],
     /// By verdict, for read and for save.
     verdicts: [[u64; 5]; 2],
     broken: u64,
@@ -22,23 +27,35 @@ pub struct Tally {
     incomplete: u64,
 }
 
+/// The numbers of the refusals, and 0.
+const NUMBERS: usize = 18;
+
 /// The refusals that a saver's calls can meet.
 const OF_SAVER: [usize; 6] = [4, 5, 8, 13, 14, 15];
-/// The refusals that the other calls can meet.
-const OF_TICKET: [usize; 13] = [1, 2, 3, 4, 5, 6, 7, 8, 9, 10, 11, 12, 16];
+/// A ticket's own refusals that come before the edition decides, and those of edition 01 and of edition 02.
+const OF_OTHERS: [usize; 2] = [1, 2];
+const OF_EDITION_01: [usize; 8] = [1, 3, 4, 5, 6, 7, 8, 9];
+const OF_EDITION_02: [usize; 9] = [1, 3, 4, 5, 6, 7, 8, 9, 17];
+/// The refusals that calls on an accepted ticket can meet.
+const LATER: [usize; 4] = [10, 11, 12, 16];
 const VERDICTS: [&str; 5] = ["refused", "valid", "no cycle", "shared card", "overfull"];
 
 impl Tally {
     /// Counts a ticket with its own refusal, or 0.
-    pub fn ticket(&mut self, refusal: u8) {
+    pub fn ticket(&mut self, ticket: &[u8], refusal: u8) {
         self.tickets += 1;
-        self.refusals[usize::from(refusal)] += 1;
+        let edition = match ticket.get(..2) {
+            Some(b"01") => 1,
+            Some(b"02") => 2,
+            _ => 0,
+        };
+        self.of_editions[edition][usize::from(refusal)] += 1;
     }
 
     /// Counts a refusal that comes after the ticket's own ones.
     pub fn later_refusal(&mut self, refusal: u8) {
-        if refusal > 9 {
-            self.refusals[usize::from(refusal)] += 1;
+        if LATER.contains(&refusal.into()) {
+            self.later_refusals[usize::from(refusal)] += 1;
         }
     }
 
@@ -73,10 +90,14 @@ impl Tally {
         self.wrapped += other.wrapped;
         self.small_letters += other.small_letters;
         self.small_letters_accepted += other.small_letters_accepted;
+        self.twins += other.twins;
         self.broken += other.broken;
         self.complete += other.complete;
         self.incomplete += other.incomplete;
-        add_each(&mut self.refusals, &other.refusals);
+        for (sum, counts) in self.of_editions.iter_mut().zip(&other.of_editions) {
+            add_each(sum, counts);
+        }
+        add_each(&mut self.later_refusals, &other.later_refusals);
         add_each(&mut self.saver_refusals, &other.saver_refusals);
         for (sum, counts) in self.verdicts.iter_mut().zip(&other.verdicts) {
             add_each(sum, counts);
@@ -93,10 +114,13 @@ impl Tally {
             "{} tickets with small letters beside their upper-case text, {} of them accepted",
             self.small_letters, self.small_letters_accepted
         );
-        for number in 1..=16 {
+        println!("{} tickets of edition 02 beside their twins of edition 01", self.twins);
+        let [others, first, second] = &self.of_editions;
+        println!("accepted: edition 01 {}, edition 02 {}", first[0], second[0]);
+        for number in 1..NUMBERS {
             println!(
-                "refusal {number}: {}, saver {}",
-                self.refusals[number], self.saver_refusals[number]
+                "refusal {number}: edition 01 {}, edition 02 {}, other tickets {}, later {}, saver {}",
+                first[number], second[number], others[number], self.later_refusals[number], self.saver_refusals[number]
             );
         }
         for (verdict, name) in VERDICTS.iter().enumerate().skip(1) {
@@ -117,21 +141,29 @@ impl Tally {
         assert!(self.wrapped >= 1_000);
         assert!(self.small_letters >= 2_000 && self.small_letters_accepted >= 1_000);
         assert!(self.broken >= 1_000 && self.complete >= 1_000 && self.incomplete >= 1_000);
-        for number in OF_TICKET {
-            assert!(self.refusals[number] >= 300, "refusal {number} is too rare");
-        }
-        for number in OF_SAVER {
-            assert!(
-                self.saver_refusals[number] >= 300,
-                "a saver's refusal {number} is too rare"
-            );
-        }
+        let [others, first, second] = &self.of_editions;
+        assert!(first[0] >= 10_000 && second[0] >= 10_000 && self.twins >= 10_000);
+        often_enough("other tickets", others, &OF_OTHERS);
+        often_enough("tickets of edition 01", first, &OF_EDITION_01);
+        often_enough("tickets of edition 02", second, &OF_EDITION_02);
+        often_enough("later calls", &self.later_refusals, &LATER);
+        often_enough("savers", &self.saver_refusals, &OF_SAVER);
         for (verdict, name) in VERDICTS.iter().enumerate().skip(1) {
             assert!(
                 self.verdicts.iter().all(|counts| counts[verdict] >= 1_000),
                 "verdict {name} is too rare"
             );
         }
+    }
+}
+
+fn often_enough(met_by: &str, counts: &[u64; NUMBERS], numbers: &[usize]) {
+    for &number in numbers {
+        assert!(
+            counts[number] >= 300,
+            "refusal {number} is too rare for {met_by}: {}",
+            counts[number]
+        );
     }
 }
 
