@@ -49,7 +49,7 @@ module _ (t : List ℕ) where
         → after ≡ cardsRead (h .edition) (take (length t - headerBytes) (drop headerBytes t)) (h .cards) (h .frames) memory
         → after ≡ readInto t memory
     unfolding readInto
-    part-into memory q = rw e (rw from-place at q)
+    part-into memory {after} q = rw e (rw from-place at q)
 
   -- a refused header
   pub header-into : (k : ℕ) (memory : List ℕ) → heading t ≡ Refused k → memory ≡ readInto t memory
