@@ -28,7 +28,7 @@ use Rattle.firmware.specs.Cases.{Case, call, expected, cases}
 
 pub cases-hold : map (λ (x : Case). resultOf (call x)) cases ≡ map expected cases
 unfolding saveAndKeep greedyWriting lazyPrefetching run outcome peak stepsTo verdictOnRead verdictOnSave digit digits number isLine digitOf
-    hex known secondDigits headerOf withinLimits judge heading cardAt secondAt secondBefore lineFault linesFault partFault parse zeros lineOf
-    linePlace lineTexts ticketText planOf bufferAfter checkOf ranOf frameLines planText refusalText textOf bytesIn put.bufferAfter newOf saveOf closeOf startOf memoryStarted recordAfter
-    bytesAfter driveOf memoryDriven
+    hex known secondDigits headerOf withinLimits judge heading cardAt secondAt secondBefore lineFault linesFault partFault parse zeros
+    lineOf linePlace lineTexts ticketText planOf bufferAfter checkOf ranOf frameLines planText refusalText textOf bytesIn put.bufferAfter
+    newOf saveOf closeOf startOf memoryStarted recordAfter bytesAfter driveOf memoryDriven
 cases-hold = refl
