@@ -9,7 +9,7 @@ use Rattle.schedule.specs.Cases.{Case, expected, cases}
 use Rattle.text.specs.Text.{digit, digits, number, isLine}
 use Rattle.text.specs.Hex.{digitOf, hex}
 use Rattle.header.specs.Editions.{known, secondDigits}
-use Rattle.header.specs.Heading.{headerOf, withinLimits, judge, heading}
+use Rattle.header.specs.Heading.{headerOf, withinLimits, headerAnswer, heading}
 use Rattle.frame_lines.specs.Lines.{cardAt, secondAt, secondBefore, lineFault, linesFault, partFault}
 use Rattle.ticket.specs.Ticket.{parse}
 use Rattle.ticket.specs.Print.{lineTexts, ticketText}
@@ -17,6 +17,6 @@ use Rattle.checker.specs.Check.{checkOf}
 use Rattle.checker.specs.Cases.{told, asked}
 
 pub verdicts-hold : map asked cases ≡ map (λ (x : Case). told (expected x)) cases
-unfolding run peak stepsTo verdictOnRead verdictOnSave digit digits number isLine digitOf hex known secondDigits headerOf withinLimits judge heading
+unfolding run peak stepsTo verdictOnRead verdictOnSave digit digits number isLine digitOf hex known secondDigits headerOf withinLimits headerAnswer heading
     cardAt secondAt secondBefore lineFault linesFault partFault parse lineTexts ticketText checkOf
 verdicts-hold = refl

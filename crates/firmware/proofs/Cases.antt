@@ -9,7 +9,7 @@ use Rattle.schedule.specs.Verdict.{verdictOnRead, verdictOnSave}
 use Rattle.text.specs.Text.{digit, digits, number, isLine}
 use Rattle.text.specs.Hex.{digitOf, hex}
 use Rattle.header.specs.Editions.{known, secondDigits}
-use Rattle.header.specs.Heading.{headerOf, withinLimits, judge, heading}
+use Rattle.header.specs.Heading.{headerOf, withinLimits, headerAnswer, heading}
 use Rattle.frame_lines.specs.Lines.{cardAt, secondAt, secondBefore, lineFault, linesFault, partFault}
 use Rattle.ticket.specs.Ticket.{parse, zeros, lineOf, linePlace}
 use Rattle.ticket.specs.Print.{lineTexts, ticketText}
@@ -28,7 +28,7 @@ use Rattle.firmware.specs.Cases.{Case, call, expected, cases}
 
 pub cases-hold : map (λ (x : Case). resultOf (call x)) cases ≡ map expected cases
 unfolding saveAndKeep greedyWriting lazyPrefetching run outcome peak stepsTo verdictOnRead verdictOnSave digit digits number isLine digitOf
-    hex known secondDigits headerOf withinLimits judge heading cardAt secondAt secondBefore lineFault linesFault partFault parse zeros
+    hex known secondDigits headerOf withinLimits headerAnswer heading cardAt secondAt secondBefore lineFault linesFault partFault parse zeros
     lineOf linePlace lineTexts ticketText planOf bufferAfter checkOf ranOf frameLines planText refusalText textOf bytesIn put.bufferAfter
     newOf saveOf closeOf startOf memoryStarted recordAfter bytesAfter driveOf memoryDriven
 cases-hold = refl

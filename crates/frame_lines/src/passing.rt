@@ -51,7 +51,6 @@ pub(crate) fn read_1(
 }
 
 // Lines that have a capture second after the card: all its digits are digits, and it is not lower than that of the line before.
-
 pub(crate) fn read_2(
     value: &[u8; 256],
     wide: &[u64; 256],

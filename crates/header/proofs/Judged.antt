@@ -13,7 +13,7 @@ use Rattle.header.specs.declared.Header.{Header}
 use Rattle.header.specs.declared.Answer.{Answer}
 use Rattle.header.specs.declared.Answer.the-variants.{Accepted, Refused}
 use Rattle.text.specs.Text.{number, isLine}
-use Rattle.header.specs.Heading.{headerDigits, headerOf, editionOf, withinLimits, judge, heading}
+use Rattle.header.specs.Heading.{headerDigits, headerOf, editionOf, withinLimits, headerAnswer, heading}
 use Rattle.header.specs.Editions.{Known}
 use Rattle.header.specs.Limits.{modeSaveAndKeep, maxCards, maxPool, maxFrames, Within, Outside}
 use Rattle.header.proofs.Widths.{known-is, not-known}
@@ -57,12 +57,12 @@ module _ (h : Header) where
         unfolding withinLimits
         judge-accepts l = rw (le-leb _ _ m, within _ _ c, within _ _ p, le-leb _ _ l)
 
-  pub edition-refused : (Known (h .edition) → ⊥) → judge h ≡ Refused 2
-  unfolding judge
+  pub edition-refused : (Known (h .edition) → ⊥) → headerAnswer h ≡ Refused 2
+  unfolding headerAnswer
   edition-refused n = rw (not-known (h .edition) n)
 
-  pub edition-passes : Known (h .edition) → judge h ≡ withinLimits h
-  unfolding judge
+  pub edition-passes : Known (h .edition) → headerAnswer h ≡ withinLimits h
+  unfolding headerAnswer
   edition-passes k = rw (known-is (h .edition) k)
 
 module _ (t : List ℕ) where
@@ -70,7 +70,7 @@ module _ (t : List ℕ) where
   unfolding heading
   heading-1 e = rw e
 
-  heading-of : isLine t 0 headerDigits ≡ true → heading t ≡ judge (headerOf t)
+  heading-of : isLine t 0 headerDigits ≡ true → heading t ≡ headerAnswer (headerOf t)
   unfolding heading
   heading-of e = rw e
 
@@ -84,6 +84,6 @@ module _ (t : List ℕ) where
   pub heading-read :
       {r : Answer} {e m c p f : ℕ} → isLine t 0 headerDigits ≡ true
       → e ≡ number t 0 2 → m ≡ number t 2 2 → c ≡ number t 4 2 → p ≡ number t 6 4
-      → f ≡ number t 10 4 → r ≡ judge (record { edition = e; mode = m; cards = c; pool = p; frames = f }) → r ≡ heading t
+      → f ≡ number t 10 4 → r ≡ headerAnswer (record { edition = e; mode = m; cards = c; pool = p; frames = f }) → r ≡ heading t
   unfolding headerOf
   heading-read l e m c p f j = rw (heading-of l, ← e, ← m, ← c, ← p, ← f) j

@@ -45,16 +45,16 @@ module _ (e : ℕ) where
   known-small = ⊎-elim (λ q. omega (arith, q)) (λ q. omega (arith, q))
 
   -- the width
-  pub wide : e ≡ edition2 → 10 ≡ lineDigits e
+  pub with-second : e ≡ edition2 → 10 ≡ lineDigits e
   unfolding secondDigits
-  wide q = rw q
+  with-second q = rw q
 
   pub no-second : (e ≡ edition2 → ⊥) → secondDigits e ≡ 0
   unfolding secondDigits
   no-second n = rw (ne-eqb _ _ n)
 
-  pub narrow : (e ≡ edition2 → ⊥) → cardDigits ≡ lineDigits e
-  narrow n = omega (arith, no-second n)
+  pub card-alone : (e ≡ edition2 → ⊥) → cardDigits ≡ lineDigits e
+  card-alone n = omega (arith, no-second n)
 
   -- no line is wider than one of edition 02
   pub widest : secondDigits e ≤ 8
@@ -95,5 +95,5 @@ module _ (t : List ℕ) where
       elim (decLt (editionOf t) 10) [
         | yes l ↦ rw (lt-ltb (editionOf t) 10 l)
         | no l ↦
-            rw (le-ltb (editionOf t) 10 (omega arith)) (sym (narrow 0 (λ e. omega arith)) ∙ narrow (editionOf t) (λ e. omega arith))
+            rw (le-ltb (editionOf t) 10 (omega arith)) (sym (card-alone 0 (λ e. omega arith)) ∙ card-alone (editionOf t) (λ e. omega arith))
       ]

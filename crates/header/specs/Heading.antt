@@ -18,7 +18,7 @@ headerDigits = 14
 abbrev pub headerBytes : ℕ
 headerBytes = headerDigits + 1
 
--- "edition (2 digits), mode (2), cards (2), pool (4), frames (4)"
+-- "edition (2 digits ..), mode (2), cards (2), pool (4), frames (4)"
 unfoldable pub headerOf : List ℕ → Header
 headerOf t = record { edition = number t 0 2; mode = number t 2 2; cards = number t 4 2; pool = number t 6 4; frames = number t 10 4 }
 
@@ -42,9 +42,9 @@ withinLimits h =
     (Refused 3)
 
 -- Refusals 2 to 6.
-unfoldable pub judge : Header → Answer
-judge h = cond (known (h .edition)) (withinLimits h) (Refused 2)
+unfoldable pub headerAnswer : Header → Answer
+headerAnswer h = cond (known (h .edition)) (withinLimits h) (Refused 2)
 
 -- Refusals 1 to 6.
 unfoldable pub heading : List ℕ → Answer
-heading t = cond (isLine t 0 headerDigits) (judge (headerOf t)) (Refused 1)
+heading t = cond (isLine t 0 headerDigits) (headerAnswer (headerOf t)) (Refused 1)

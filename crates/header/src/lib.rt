@@ -1,7 +1,7 @@
 // The header of a ticket: refusals 1 to 6.
 ghost use mathlib.Core.Path.{_≡_};
 ghost use Rattle.text.specs.Text.{digitValues};
-ghost use Rattle.header.specs.Heading.{withinLimits, judge, heading};
+ghost use Rattle.header.specs.Heading.{withinLimits, headerAnswer, heading};
 ghost use Rattle.header.specs.Numbers.{numbersOf};
 
 pub mod editions;
@@ -48,8 +48,8 @@ fn within_limits(h: Header) -> Answer
 }
 
 // Refusals 2 to 6.
-fn judge(h: Header) -> Answer
-    ensures { λ r. ⌜ r ≡ judge h ⌝ }
+fn header_answer(h: Header) -> Answer
+    ensures { λ r. ⌜ r ≡ headerAnswer h ⌝ }
 {
     if editions::known(h.edition) {
         return within_limits(h);
@@ -63,7 +63,7 @@ fn read_heading(value: &[u8; 256], t: &[u8]) -> Answer
     ensures { λ r. ⌜ r ≡ heading (now (t .entry)) ⌝ }
 {
     if text::read::is_line(value, t, 0, 14) {
-        judge(Header {
+        header_answer(Header {
             edition: text::read::number(value, t, 0, 2) as u8,
             mode: text::read::number(value, t, 2, 2) as u8,
             cards: text::read::number(value, t, 4, 2) as u8,

@@ -58,8 +58,8 @@ number-requires-5 c κs =
 cast-t14 : tie.Need-cast-t14
 cast-t14 c = search needs
 
-judge-requires : tie.Need-judge-requires
-judge-requires c κs = search needs
+header-answer-requires : tie.Need-header-answer-requires
+header-answer-requires c κs = search needs
 
 returns : tie.Need-returns
 returns c =
@@ -70,7 +70,7 @@ returns c =
     (n .before .before .number3 .ensures .0)
     (n .before .number4 .ensures .0)
     (n .number5 .ensures .0)
-    (c .judge .ensures)
+    (c .header-answer .ensures)
 
 returns-2 : tie.Need-returns-2
 returns-2 c = sym (heading-1 _ (sym (c .before .is-line .ensures (c .before .before .before .pre)) ∙ c .if1 .left))
@@ -90,6 +90,6 @@ read-heading-spec =
     cast-t12
     number-requires-5
     cast-t14
-    judge-requires
+    header-answer-requires
     returns
     returns-2)

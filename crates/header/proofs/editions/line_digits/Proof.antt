@@ -1,7 +1,7 @@
 -- `header::editions::line_digits` meets its contract.
 -- Assumes nothing.
 use native.Mathlib.Omega.{arith}
-use Rattle.header.proofs.Widths.{wide, narrow}
+use Rattle.header.proofs.Widths.{with-second, card-alone}
 use borrow.Author.Needs.{needs}
 use Rattle.header.proofs.editions.line_digits.Statement.{statement}
 use Rattle.header.proofs.editions.line_digits.Tie as tie
@@ -10,10 +10,10 @@ add-result : tie.Need-add-result
 add-result c = search needs
 
 returns : tie.Need-returns
-returns c = wide _ (omega arith)
+returns c = with-second _ (omega arith)
 
 returns-2 : tie.Need-returns-2
-returns-2 c = narrow _ (λ e. omega arith)
+returns-2 c = card-alone _ (λ e. omega arith)
 
 pub line-digits-spec : {M : Type 1} → statement M
 line-digits-spec =

@@ -1,11 +1,11 @@
--- `header::judge` meets its contract.
+-- `header::header_answer` meets its contract.
 -- Assumes nothing.
 use mathlib.Core.Path.{sym, _∙_}
 use Rattle.header.proofs.Widths.{is-known, unknown}
 use Rattle.header.proofs.Judged.{edition-refused, edition-passes}
 use borrow.Author.Needs.{needs}
-use Rattle.header.proofs.judge.Statement.{statement}
-use Rattle.header.proofs.judge.Tie as tie
+use Rattle.header.proofs.header_answer.Statement.{statement}
+use Rattle.header.proofs.header_answer.Tie as tie
 
 known-requires : tie.Need-known-requires
 known-requires c κs = search needs
@@ -21,8 +21,8 @@ returns c =
 returns-2 : tie.Need-returns-2
 returns-2 c = sym (edition-refused _ (unknown _ (sym (c .before .known .ensures) ∙ c .if1 .left)))
 
-pub judge-spec : {M : Type 1} → statement M
-judge-spec =
+pub header-answer-spec : {M : Type 1} → statement M
+header-answer-spec =
     tie.close
     (tie.spec
     known-requires
