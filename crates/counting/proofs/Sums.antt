@@ -5,7 +5,7 @@ use mathlib.Core.Path.{_≡_, refl, sym, ap, _∙_}
 use mathlib.Core.Bool.{Bool, true, false, _&&_, and-true, and-false}
 use native.Mathlib.Omega.{arith}
 use native.Mathlib.Decide.{decLe, decLt, ℕ-discrete}
-use native.Mathlib.Numerals.{add-one}
+use native.Mathlib.Nat.{add-zero}
 use lib.Dec.{eqb, ltb, eqb·zero-suc, eqb·suc-suc, eqb·suc-zero}
 use borrow.Author.Tests.{eq-eqb, ne-eqb, eqb-true, le-ltb, lt-ltb}
 use Rattle.counting.specs.Count.{bit, sum, howMany}
@@ -72,6 +72,11 @@ sum-cut (suc n) k f g h z = go (decLt n k) (sum-cut n k f g (λ i l. h i (omega 
     go (no l) ih =
         let a : min (suc n) k ≡ min n k = omega arith in
         rw a (omega (arith, z n (omega arith) (omega arith)))
+
+-- the first n terms apart
+pub sum-split : (n k : ℕ) (f : ℕ → ℕ) → sum (n + k) f ≡ sum n f + sum k (λ i. f (n + i))
+sum-split n zero f = rw (add-zero n) (omega arith)
+sum-split n (suc k) f = let e : n + suc k ≡ suc (n + k) = omega arith in rw e (omega (arith, sum-split n k f))
 
 -- the first term apart, and the terms from the last to the first
 pub sum-front : (n : ℕ) (f : ℕ → ℕ) → sum (suc n) f ≡ f 0 + sum n (λ i. f (suc i))
@@ -168,22 +173,7 @@ some-passes (suc n) t h =
 pub passes-after : (n i : ℕ) (t : ℕ → Bool) → i < n → t i ≡ true → howMany i t < howMany n t
 passes-after n i t l e = omega (arith, sum-longer (suc i) n (λ j. bit (t j)) l, ap bit e)
 
--- one number more
-pub counted-one : (n : ℕ) (test : ℕ → Bool) → test n ≡ true → howMany n test + 1 ≡ howMany (n + 1) test
-counted-one n test e = rw (add-one n, e) refl
-
-pub counted-none : (n : ℕ) (test : ℕ → Bool) → test n ≡ false → howMany n test ≡ howMany (n + 1) test
-counted-none n test e = rw (add-one n, e) (omega arith)
-
--- how many of the first n numbers are below h and pass a test
-pub front-only : (n h : ℕ) (test : ℕ → Bool) → h ≤ n → howMany n (λ j. ltb j h && test j) ≡ howMany h test
-front-only zero h test l = let e : h ≡ 0 = omega arith in rw e
-front-only (suc n) h test l =
-    elim (ℕ-discrete h (suc n)) [
-      | yes e ↦ rw e (sum-cong (suc n) (λ j. bit (ltb j (suc n) && test j)) (λ j. bit (test j)) (λ j k. rw (lt-ltb j (suc n) k)))
-      | no e ↦ rw (le-ltb n h (omega arith)) (omega (arith, front-only n h test (omega arith)))
-    ]
-
+-- how many of the first n numbers are below h
 pub all-below : (n h : ℕ) → h ≤ n → howMany n (λ j. ltb j h) ≡ h
 all-below zero h l = omega arith
 all-below (suc n) h l =

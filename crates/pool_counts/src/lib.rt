@@ -1,5 +1,11 @@
-// The counts of a plan's pool rule: how many frames share the pool with a frame until its cycle, the most of all frames, and the most that are
-// read before an earlier one.
+// The pool rule by counting: how many frames share the pool with a frame until its cycle, up to m; how many frames of a plan have room; and
+// the most frames that are read before an earlier one. Cycles may be as large as they like; crates/low_pools is quick up to cycle 4,096.
 pub mod backlog;
-pub mod below;
-pub mod peak;
+pub mod plans;
+
+// How many frames have room, up to the first that has not; and the most that are read before an earlier one of them, which is the peak of a
+// read where all have room.
+pub struct Room {
+    pub roomy: usize,
+    pub before: u16,
+}

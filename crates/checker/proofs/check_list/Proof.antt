@@ -25,7 +25,7 @@ verdict-requires : tie.Need-verdict-requires
 verdict-requires c κs =
     let fits = c .before .before .before .before .before .before .before .before .pre in
     let not-keep = c .before .before .before .before .if1 .left in
-    checking _ _ _ fits not-keep (omega (arith, c .before .before .if2 .left))
+    (checking _ _ _ fits not-keep (omega (arith, c .before .before .if2 .left)), fits .pool .0)
 
 returns-3 : tie.Need-returns-3
 returns-3 c =

@@ -1,0 +1,4 @@
+pub mod Adding
+pub mod Ahead
+pub mod ReadTurns
+pub mod SaveTurns

@@ -1,0 +1,164 @@
+-- `low_pools::saves::roomy` meets its contract.
+-- Assumes nothing.
+use borrow.Author.Needs.{needs}
+use Prim.Native.Nat.{suc, _+_, _-_}
+use native.Mathlib.Omega.{arith}
+use Rattle.header.specs.Limits.{maxFrames}
+use Rattle.low_pools.proofs.SaveTurns.{SaveTurn, save-first, full-below, due-le, save-moves}
+use Rattle.low_pools.proofs.SaveTurns.{cycle-low, save-ends, due-small, cycle-place, save-next, save-all}
+use Rattle.low_pools.proofs.saves.roomy.Statement.{statement}
+use Rattle.low_pools.proofs.saves.roomy.Tie as tie
+
+abbrev Inv-loop : tie.InvT-loop
+Inv-loop plan m due₀ n full₀ above₀ i₀ due full above i = SaveTurn m plan due i full above
+
+abbrev μ-loop : tie.MeasureT-loop
+μ-loop plan m due₀ n full₀ above₀ i₀ due full above i = (n - i) + (suc maxFrames - full)
+
+loop-holds : tie.Need-loop-holds Inv-loop μ-loop
+loop-holds c = save-first _ _ _ (c .before .before .pre .0)
+
+mul-above : tie.Need-mul-above Inv-loop μ-loop
+mul-above c = search needs
+
+slice-read-above : tie.Need-slice-read-above Inv-loop μ-loop
+slice-read-above c = search needs
+
+sub-above : tie.Need-sub-above Inv-loop μ-loop
+sub-above c =
+    let pre = c .before .before .before .before .before .before .pre in
+    due-le (c .before .before .before .loop .inv) (pre .1) (pre .2) (c .before .if1 .taken)
+
+add-full : tie.Need-add-full Inv-loop μ-loop
+add-full c = search needs
+
+loop-less : tie.Need-loop-less Inv-loop μ-loop
+loop-less c =
+    let pre = c .before .before .before .before .before .before .pre in
+    omega (arith, full-below (c .before .before .before .loop .inv) (pre .1) (pre .2) (c .before .if1 .taken))
+
+loop-again : tie.Need-loop-again Inv-loop μ-loop
+loop-again c =
+    let pre = c .before .before .before .before .before .before .pre in
+    save-moves (c .before .before .before .loop .inv) (pre .1) (pre .2) (c .before .if1 .taken)
+
+mul-cycle : tie.Need-mul-cycle Inv-loop μ-loop
+mul-cycle c = search needs
+
+shared-slice-read-cycle : tie.Need-shared-slice-read-cycle Inv-loop μ-loop
+shared-slice-read-cycle c = search needs
+
+cycle-index-requires : tie.Need-cycle-index-requires Inv-loop μ-loop
+cycle-index-requires c κs = search needs
+
+same-length : tie.Need-same-length Inv-loop μ-loop
+same-length c = search needs
+
+returns : tie.Need-returns Inv-loop μ-loop
+returns c =
+    let inv = c .before .before .before .before .before .loop .inv in
+    let pre = c .before .before .before .before .before .before .before .before .pre in
+    let few-after = c .before .before .before .if1 .left in
+    let place-is = c .before .cycle-index .ensures in
+    let inside = c .before .before .before .before .loop-test .taken in
+    save-ends inv (pre .1) few-after inside place-is (c .if2 .taken)
+
+mul-due : tie.Need-mul-due Inv-loop μ-loop
+mul-due c =
+    let inv = c .before .before .before .before .before .loop .inv in
+    let pre = c .before .before .before .before .before .before .before .before .pre in
+    let few-after = c .before .before .before .if1 .left in
+    let place-is = c .before .cycle-index .ensures in
+    let inside = c .before .before .before .before .loop-test .taken in
+    omega (arith, cycle-low inv (pre .1) few-after inside place-is)
+
+slice-read-due : tie.Need-slice-read-due Inv-loop μ-loop
+slice-read-due c =
+    let inv = c .before .before .before .before .before .before .loop .inv in
+    let pre = c .before .before .before .before .before .before .before .before .before .pre in
+    let few-after = c .before .before .before .before .if1 .left in
+    let place-is = c .before .before .cycle-index .ensures in
+    let inside = c .before .before .before .before .before .loop-test .taken in
+    cycle-place inv (pre .1) few-after inside place-is
+
+add-due : tie.Need-add-due Inv-loop μ-loop
+add-due c =
+    let inv = c .before .before .before .before .before .before .loop .inv in
+    let pre = c .before .before .before .before .before .before .before .before .before .pre in
+    let few-after = c .before .before .before .before .if1 .left in
+    let place-is = c .before .before .cycle-index .ensures in
+    let inside = c .before .before .before .before .before .loop-test .taken in
+    omega (arith, due-small inv (pre .1) few-after inside place-is)
+
+mul-due-2 : tie.Need-mul-due-2 Inv-loop μ-loop
+mul-due-2 c =
+    let inv = c .before .before .before .before .before .before .loop .inv in
+    let pre = c .before .before .before .before .before .before .before .before .before .pre in
+    let few-after = c .before .before .before .before .if1 .left in
+    let place-is = c .before .before .cycle-index .ensures in
+    let inside = c .before .before .before .before .before .loop-test .taken in
+    omega (arith, cycle-low inv (pre .1) few-after inside place-is)
+
+slice-write-due : tie.Need-slice-write-due Inv-loop μ-loop
+slice-write-due c =
+    let inv = c .before .before .before .before .before .before .loop .inv in
+    let pre = c .before .before .before .before .before .before .before .before .before .pre in
+    let few-after = c .before .before .before .before .if1 .left in
+    let place-is = c .before .before .cycle-index .ensures in
+    let inside = c .before .before .before .before .before .loop-test .taken in
+    cycle-place inv (pre .1) few-after inside place-is
+
+add-above : tie.Need-add-above Inv-loop μ-loop
+add-above c = search needs
+
+add-i : tie.Need-add-i Inv-loop μ-loop
+add-i c = search needs
+
+loop-less-2 : tie.Need-loop-less-2 Inv-loop μ-loop
+loop-less-2 c = search needs
+
+loop-again-2 : tie.Need-loop-again-2 Inv-loop μ-loop
+loop-again-2 c =
+    let inv = c .before .before .before .before .before .before .loop .inv in
+    let pre = c .before .before .before .before .before .before .before .before .before .pre in
+    let few-after = c .before .before .before .before .if1 .left in
+    let place-is = c .before .before .cycle-index .ensures in
+    let after-full = c .before .if2 .left in
+    let inside = c .before .before .before .before .before .loop-test .taken in
+    save-next inv (pre .1) few-after inside place-is after-full
+
+same-length-2 : tie.Need-same-length-2 Inv-loop μ-loop
+same-length-2 c = search needs
+
+returns-2 : tie.Need-returns-2 Inv-loop μ-loop
+returns-2 c = save-all (c .before .loop .inv) (c .before .before .before .before .pre .1) (c .loop-test .left)
+
+pub roomy-spec : {M : Type 1} → statement M
+roomy-spec =
+    tie.close
+    (tie.spec
+    Inv-loop
+    μ-loop
+    loop-holds
+    mul-above
+    slice-read-above
+    sub-above
+    add-full
+    loop-less
+    loop-again
+    mul-cycle
+    shared-slice-read-cycle
+    cycle-index-requires
+    same-length
+    returns
+    mul-due
+    slice-read-due
+    add-due
+    mul-due-2
+    slice-write-due
+    add-above
+    add-i
+    loop-less-2
+    loop-again-2
+    same-length-2
+    returns-2)

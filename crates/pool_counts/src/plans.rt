@@ -1,0 +1,140 @@
+// The pool rule over a whole plan by counting: which frames have room, and the peak of a read. Only frames that can decide are counted, but for
+// the lowest overfull frame of a save.
+ghost use mathlib.Core.Path.{_≡_};
+ghost use mathlib.Core.Bool.{true, false};
+ghost use Prim.Native.Nat.{ℕ, _≤_, _<_};
+ghost use lib.Dec.{leb};
+ghost use lib.ListN.{length};
+ghost use Rattle.schedule.specs.Schedule.{cycleOf};
+ghost use Rattle.schedule.specs.Closed.{readBefore};
+ghost use Rattle.header.specs.Limits.{maxFrames};
+ghost use Rattle.pool_counts.specs.Asked.{Asked};
+ghost use Rattle.pool_counts.specs.Pools.{roomyOf, pastAll, mostOf, peakOf};
+use crate::Room;
+use crate::backlog;
+use counting::Cycle;
+
+// A number after all cycles.
+const PAST_ALL: usize = 65536;
+
+// A cycle as a number that may be one more.
+fn place(cycle: u16) -> usize
+    ensures { λ r. ⌜ (r ≡ cycle) × (r < pastAll) ⌝ }
+{
+    cycle as usize
+}
+
+// A read: how many of the first n frames have room, up to the first that has not. A frame that is not ahead of all earlier ones has no larger
+// count than one of these, and is not counted.
+//   ceiling   one more than the largest cycle so far, 0 before the first frame
+fn roomy_read(plan: &[u16], m: u16, n: usize) -> usize
+    requires { ⌜ (n ≤ length (now plan)) × (length (now plan) ≤ maxFrames) ⌝ }
+    ensures { λ r. ⌜ r ≡ roomyOf false m (now (plan .entry)) n ⌝ }
+{
+    let mut ceiling: usize = 0;
+    let mut i: usize = 0;
+    while i < n {
+        let k = i;
+        let c = place(plan[i]);
+        i += 1;
+        if ceiling <= c {
+            let found = backlog::backlog(false, plan, k, m);
+            if m <= found.count {
+                return k;
+            }
+            ceiling = c + 1;
+        }
+    }
+    n
+}
+
+// A save: whether all of the first n frames have room. A frame that is not behind all later ones has no larger count than one of these, and is
+// not counted.
+//   floor   the smallest cycle of the later frames, past all behind the last
+fn all_roomy_save(plan: &[u16], m: u16, n: usize) -> bool
+    requires { ⌜ (n ≤ length (now plan)) × (length (now plan) ≤ maxFrames) ⌝ }
+    ensures { λ r. ⌜ r ≡ leb n (roomyOf true m (now (plan .entry)) n) ⌝ }
+{
+    let mut floor: usize = PAST_ALL;
+    let mut i: usize = n;
+    while 0 < i {
+        i -= 1;
+        let c = place(plan[i]);
+        if c < floor {
+            let found = backlog::backlog(true, plan, i, m);
+            if m <= found.count {
+                return false;
+            }
+            floor = c;
+        }
+    }
+    true
+}
+
+// A save: how many of the first n frames have room, up to the first that has not. Each is counted, unless all have room.
+fn roomy_save(plan: &[u16], m: u16, n: usize) -> usize
+    requires { ⌜ (n ≤ length (now plan)) × (length (now plan) ≤ maxFrames) ⌝ }
+    ensures { λ r. ⌜ r ≡ roomyOf true m (now (plan .entry)) n ⌝ }
+{
+    if all_roomy_save(plan, m, n) {
+        return n;
+    }
+    let mut i: usize = 0;
+    while i < n {
+        let found = backlog::backlog(true, plan, i, m);
+        if m <= found.count {
+            return i;
+        }
+        i += 1;
+    }
+    n
+}
+
+// The most frames that are read before an earlier one. Only frames ahead of all earlier ones are counted.
+fn peak(plan: &[u16]) -> u16
+    requires { ⌜ (length (now plan) ≤ maxFrames) × ((i : ℕ) → i < length (now plan) → 1 ≤ cycleOf (now plan) i) ⌝ }
+    ensures { λ r. ⌜ r ≡ mostOf readBefore (now (plan .entry)) ⌝ }
+{
+    let n = plan.len();
+    let mut ceiling: usize = 0;
+    let mut most: u16 = 0;
+    let mut i: usize = 0;
+    while i < n {
+        let cycle = plan[i];
+        let c = place(cycle);
+        i += 1;
+        if ceiling <= c {
+            ceiling = c + 1;
+            most = counting::larger(
+                most,
+                backlog::count_all(false, Cycle(cycle - 1), &plan[i..]),
+            );
+        }
+    }
+    most
+}
+
+// The pools of the first n frames, and the peak where all frames have room.
+pub fn pools(save: bool, plan: &[u16], m: u16, n: usize) -> Room
+    requires { ⌜ Asked (now plan) n ⌝ }
+    ensures roomy { λ r. ⌜ r .roomy ≡ roomyOf save m (now (plan .entry)) n ⌝ }
+    ensures peak { λ r. ⌜ (r .roomy ≡ length (now (plan .entry)) → r .before ≡ peakOf save (now (plan .entry))) ⌝ }
+{
+    if save {
+        return Room {
+            roomy: roomy_save(plan, m, n),
+            before: 0,
+        };
+    }
+    let found = roomy_read(plan, m, n);
+    if found < plan.len() {
+        return Room {
+            roomy: found,
+            before: 0,
+        };
+    }
+    Room {
+        roomy: found,
+        before: peak(plan),
+    }
+}
