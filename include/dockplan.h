@@ -51,8 +51,8 @@
 extern "C" {
 #endif
 
-/* The version of this header: 102 for 1.2. It grows whenever a call is added or changed. */
-#define DOCKPLAN_VERSION 102
+/* The version of this header: 103 for 1.3. It grows whenever a call is added or changed, or uses more stack. */
+#define DOCKPLAN_VERSION 103
 
 /* The version of the archive. Header and archive belong together exactly when this is DOCKPLAN_VERSION. */
 uint32_t dockplan_version(void);
@@ -172,7 +172,7 @@ typedef struct {
  * Otherwise the lowest position at fault is named, with the first of its faults in the order above. Refusals 1 to 9
  * and 17, then 12 for mode 02, then 11 where `places` is not L. */
 dockplan_check_answer dockplan_check(const uint8_t *ticket, size_t bytes, const uint16_t *plan, size_t places);
-#define DOCKPLAN_STACK_CHECK 14912
+#define DOCKPLAN_STACK_CHECK 23088
 
 /* A plan's run on the dock: whether a step was against the rules (broken), the frames handed over, the cycles that
  * ended, whether all frames were handed over (complete; with no frames they are) and the cycles needed for it, 0 if

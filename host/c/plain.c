@@ -358,49 +358,16 @@ size_t PLAIN(print)(const uint8_t *ticket, size_t bytes, uint8_t *text, size_t p
 
 /* ---- Plans that anyone made -------------------------------------------------------------------------------------------------------------- */
 
-/* A plan and its largest cycle. Where that is within the table, `before` has for each cycle how many frames come before it. */
-struct counted_plan {
+/* Up to this cycle there are tables by cycle. A plan with a larger one is counted frame by frame. */
+#define MAX_TABLE_CYCLE DOCKPLAN_MAX_FRAMES
+
+/* A plan, the cards of its frames and its largest cycle. */
+struct foreign_plan {
+    const uint8_t *card;
     const uint16_t *cycle;
     size_t frames;
     unsigned top;
-    uint16_t before[DOCKPLAN_MAX_FRAMES + 2];
 };
-
-static void fill_table(struct counted_plan *plan)
-{
-    memset(plan->before, 0, (plan->top + 2) * sizeof plan->before[0]);
-    for (size_t i = 0; i < plan->frames; i++) {
-        plan->before[plan->cycle[i] + 1]++;
-    }
-    unsigned sum = 0;
-    for (size_t c = 0; c < plan->top + 2; c++) {
-        sum += plan->before[c];
-        plan->before[c] = (uint16_t)sum;
-    }
-}
-
-static void count_plan(struct counted_plan *plan, const uint16_t *cycle, size_t frames)
-{
-    plan->cycle = cycle;
-    plan->frames = frames;
-    plan->top = largest(cycle, frames);
-    if (plan->top <= DOCKPLAN_MAX_FRAMES) {
-        fill_table(plan);
-    }
-}
-
-/* How many frames have a cycle before this one, which is at most one past the largest. */
-static unsigned frames_before(const struct counted_plan *plan, unsigned cycle)
-{
-    if (plan->top <= DOCKPLAN_MAX_FRAMES) {
-        return plan->before[cycle];
-    }
-    unsigned count = 0;
-    for (size_t i = 0; i < plan->frames; i++) {
-        count += plan->cycle[i] < cycle;
-    }
-    return count;
-}
 
 static dockplan_check_answer valid(unsigned cycles, unsigned peak)
 {
@@ -412,11 +379,144 @@ static dockplan_check_answer fault(unsigned verdict, size_t position)
     return (dockplan_check_answer){.verdict = (uint8_t)verdict, .position = {(uint16_t)position}};
 }
 
+/* A read, frame by frame. Of two frames, the earlier one has more frames in its pool unless its cycle is smaller. So the first frame with too many,
+ * and one with the peak, have a larger cycle than every frame before them; and there each count is a matter of all frames of the plan.
+ *   before[s]  how many frames of the plan have a cycle before s
+ *   highest    the largest cycle so far */
+struct read_pools {
+    uint16_t before[MAX_TABLE_CYCLE + 2];
+    unsigned highest;
+    unsigned peak;
+};
+
+static void start_read(struct read_pools *pools, const struct foreign_plan *plan)
+{
+    memset(pools->before, 0, (plan->top + 2) * sizeof pools->before[0]);
+    for (size_t i = 0; i < plan->frames; i++) {
+        pools->before[plan->cycle[i] + 1]++;
+    }
+    unsigned sum = 0;
+    for (size_t s = 0; s < plan->top + 2; s++) {
+        sum += pools->before[s];
+        pools->before[s] = (uint16_t)sum;
+    }
+    pools->highest = 0;
+    pools->peak = 0;
+}
+
+/* Takes the next frame, and answers whether it is the first with too many frames in its pool. */
+static inline bool read_overfull(struct read_pools *pools, unsigned cycle, size_t i, unsigned pool)
+{
+    if (cycle > pools->highest) {
+        if (pools->before[cycle + 1] - i - 1 >= pool) {
+            return true;
+        }
+        pools->highest = cycle;
+        pools->peak = larger(pools->peak, pools->before[cycle] - (unsigned)i);
+    }
+    return false;
+}
+
+/* A save, frame by frame. A frame has too many frames in its pool exactly when its cycle is not after `full`.
+ *   due[s]  how many frames so far have cycle s
+ *   full    the largest cycle such that as many frames as the pool holds, or more, are due in it or later; 0 where there is none
+ *   above   how many frames so far have a cycle after `full`: fewer than the pool holds */
+struct save_pools {
+    uint16_t due[MAX_TABLE_CYCLE + 1];
+    unsigned full;
+    unsigned above;
+};
+
+static void start_save(struct save_pools *pools, const struct foreign_plan *plan)
+{
+    memset(pools->due, 0, (plan->top + 1) * sizeof pools->due[0]);
+    pools->full = 0;
+    pools->above = 0;
+}
+
+/* Takes the next frame, and answers whether it is the first with too many frames in its pool. */
+static inline bool save_overfull(struct save_pools *pools, unsigned cycle, unsigned pool)
+{
+    if (cycle <= pools->full) {
+        return true;
+    }
+    pools->due[cycle]++;
+    pools->above++;
+    while (pools->above >= pool) {
+        pools->full++;
+        pools->above -= pools->due[pools->full];
+    }
+    return false;
+}
+
+/* The cards of the first frames: used[s] has a bit for each card with a frame in cycle s. */
+static void enter_cards(uint32_t *used, const struct foreign_plan *plan, size_t frames)
+{
+    memset(used, 0, (plan->top + 1) * sizeof used[0]);
+    for (size_t i = 0; i < frames; i++) {
+        used[plan->cycle[i]] |= (uint32_t)1 << plan->card[i];
+    }
+}
+
+/* A plan whose cycles are within the tables: each frame is looked at a fixed number of times. As long as every frame is after all earlier ones of
+ * its card, as in our plans, it has a cycle and shares it with none; latest[c] is card c's latest cycle. From the first other frame on, the cards
+ * of each cycle are kept. */
+static inline dockplan_check_answer check_by_table(const struct foreign_plan *plan, unsigned pool, bool read)
+{
+    union {
+        struct read_pools read;
+        struct save_pools save;
+    } pools;
+    uint16_t latest[DOCKPLAN_MAX_CARDS] = {0};
+    uint32_t used[MAX_TABLE_CYCLE + 1];
+    size_t i = 0;
+    if (read) {
+        start_read(&pools.read, plan);
+    } else {
+        start_save(&pools.save, plan);
+    }
+    for (; i < plan->frames && plan->cycle[i] > latest[plan->card[i]]; i++) {
+        unsigned cycle = plan->cycle[i];
+        latest[plan->card[i]] = (uint16_t)cycle;
+        if (read ? read_overfull(&pools.read, cycle, i, pool) : save_overfull(&pools.save, cycle, pool)) {
+            return fault(DOCKPLAN_OVERFULL, i);
+        }
+    }
+    if (i < plan->frames) {
+        enter_cards(used, plan, i);
+    }
+    for (; i < plan->frames; i++) {
+        unsigned cycle = plan->cycle[i];
+        uint32_t bit = (uint32_t)1 << plan->card[i];
+        if (cycle == 0) {
+            return fault(DOCKPLAN_NO_CYCLE, i);
+        }
+        if ((used[cycle] & bit) != 0) {
+            return fault(DOCKPLAN_SHARED_CARD, i);
+        }
+        used[cycle] |= bit;
+        if (read ? read_overfull(&pools.read, cycle, i, pool) : save_overfull(&pools.save, cycle, pool)) {
+            return fault(DOCKPLAN_OVERFULL, i);
+        }
+    }
+    return valid(plan->top, read ? pools.read.peak : 0);
+}
+
+/* How many frames have a cycle before this one. */
+static unsigned frames_before(const struct foreign_plan *plan, unsigned cycle)
+{
+    unsigned count = 0;
+    for (size_t i = 0; i < plan->frames; i++) {
+        count += plan->cycle[i] < cycle;
+    }
+    return count;
+}
+
 /* Whether an earlier frame of frame i's card has its cycle. */
-static bool shares_card(const uint8_t *card, const uint16_t *cycle, size_t i)
+static bool shares_card(const struct foreign_plan *plan, size_t i)
 {
     for (size_t j = 0; j < i; j++) {
-        if (cycle[j] == cycle[i] && card[j] == card[i]) {
+        if (plan->cycle[j] == plan->cycle[i] && plan->card[j] == plan->card[i]) {
             return true;
         }
     }
@@ -424,27 +524,27 @@ static bool shares_card(const uint8_t *card, const uint16_t *cycle, size_t i)
 }
 
 /* The fault of frame i other than a full pool, 0 for none. latest[c] is the latest cycle of card c so far: a frame after it needs no search. */
-static inline unsigned frame_fault(const uint8_t *card, const uint16_t *cycle, size_t i, uint16_t *latest)
+static inline unsigned frame_fault(const struct foreign_plan *plan, size_t i, uint16_t *latest)
 {
-    if (cycle[i] > latest[card[i]]) {
-        latest[card[i]] = cycle[i];
+    unsigned card = plan->card[i];
+    if (plan->cycle[i] > latest[card]) {
+        latest[card] = plan->cycle[i];
         return 0;
     }
-    if (cycle[i] == 0) {
+    if (plan->cycle[i] == 0) {
         return DOCKPLAN_NO_CYCLE;
     }
-    return shares_card(card, cycle, i) ? DOCKPLAN_SHARED_CARD : 0;
+    return shares_card(plan, i) ? DOCKPLAN_SHARED_CARD : 0;
 }
 
-/* A read. Of two frames, the earlier one has more frames in its pool unless its cycle is smaller. So the first frame with too many, and one with
- * the peak, have a larger cycle than every frame before them; and there each count is a matter of all frames of the plan. */
-static dockplan_check_answer check_read(const uint8_t *card, unsigned pool, const struct counted_plan *plan)
+/* A read with any cycles: the frames ahead of all earlier ones decide, as by table, and there all frames of the plan are counted. */
+static dockplan_check_answer count_read(const struct foreign_plan *plan, unsigned pool)
 {
     uint16_t latest[DOCKPLAN_MAX_CARDS] = {0};
     unsigned highest = 0;
     unsigned peak = 0;
     for (size_t i = 0; i < plan->frames; i++) {
-        unsigned verdict = frame_fault(card, plan->cycle, i, latest);
+        unsigned verdict = frame_fault(plan, i, latest);
         if (verdict != 0) {
             return fault(verdict, i);
         }
@@ -461,7 +561,7 @@ static dockplan_check_answer check_read(const uint8_t *card, unsigned pool, cons
 
 /* Whether no frame of a save has too many frames in its pool. Of two frames, the later one has more unless its cycle is larger, so it is enough
  * to look at frames with a smaller cycle than every frame after them. */
-static bool save_has_room(unsigned pool, const struct counted_plan *plan)
+static bool save_has_room(const struct foreign_plan *plan, unsigned pool)
 {
     unsigned lowest = plan->top + 1;
     for (size_t i = plan->frames; i-- > 0;) {
@@ -485,13 +585,13 @@ static unsigned frames_in_pool(const uint16_t *cycle, size_t i)
     return count;
 }
 
-/* A save. Frames are counted one by one only to find the first of those with too many. */
-static dockplan_check_answer check_save(const uint8_t *card, unsigned pool, const struct counted_plan *plan)
+/* A save with any cycles. Every pool is counted only to find the first of those with too many frames. */
+static dockplan_check_answer count_save(const struct foreign_plan *plan, unsigned pool)
 {
     uint16_t latest[DOCKPLAN_MAX_CARDS] = {0};
-    bool has_room = save_has_room(pool, plan);
+    bool has_room = save_has_room(plan, pool);
     for (size_t i = 0; i < plan->frames; i++) {
-        unsigned verdict = frame_fault(card, plan->cycle, i, latest);
+        unsigned verdict = frame_fault(plan, i, latest);
         if (verdict != 0) {
             return fault(verdict, i);
         }
@@ -502,10 +602,19 @@ static dockplan_check_answer check_save(const uint8_t *card, unsigned pool, cons
     return valid(plan->top, 0);
 }
 
+static dockplan_check_answer check_read(const struct foreign_plan *plan, unsigned pool)
+{
+    return plan->top <= MAX_TABLE_CYCLE ? check_by_table(plan, pool, true) : count_read(plan, pool);
+}
+
+static dockplan_check_answer check_save(const struct foreign_plan *plan, unsigned pool)
+{
+    return plan->top <= MAX_TABLE_CYCLE ? check_by_table(plan, pool, false) : count_save(plan, pool);
+}
+
 dockplan_check_answer PLAIN(check)(const uint8_t *ticket, size_t bytes, const uint16_t *plan, size_t places)
 {
     uint8_t card[DOCKPLAN_MAX_FRAMES];
-    struct counted_plan counted;
     dockplan_ticket_answer header = read_ticket(ticket, bytes, card);
     if (header.refusal != 0) {
         return (dockplan_check_answer){.refusal = header.refusal};
@@ -516,6 +625,6 @@ dockplan_check_answer PLAIN(check)(const uint8_t *ticket, size_t bytes, const ui
     if (places != header.frames) {
         return (dockplan_check_answer){.refusal = OTHER_LENGTH};
     }
-    count_plan(&counted, plan, places);
-    return header.mode == DOCKPLAN_READ ? check_read(card, header.pool, &counted) : check_save(card, header.pool, &counted);
+    struct foreign_plan foreign = {.card = card, .cycle = plan, .frames = places, .top = largest(plan, places)};
+    return header.mode == DOCKPLAN_READ ? check_read(&foreign, header.pool) : check_save(&foreign, header.pool);
 }

@@ -77,26 +77,34 @@ fn tickets(rest_of_header: &str, list: &[u8]) -> Vec<String> {
     tickets
 }
 
-/// Tickets of each edition and mode, with each length that they can be cut to, and with a byte after the last line.
+/// Tickets of each edition and mode, with each length that they can be cut to, and with a byte after the last line. The
+/// cycles of a plan rise for each card, or fall.
 #[test]
 fn cut_tickets() {
     let mut memory = Memory::new();
     for ticket in tickets("0200020006", &[0, 0, 1, 0, 1, 1]) {
         let whole = ticket + "\n";
         for length in 0..=whole.len() {
-            memory.call_everything(&whole.as_bytes()[..length], &[1, 2, 2, 3, 3, 4]);
+            for cycles in [[1, 2, 2, 3, 3, 4], [2, 1, 2, 3, 1, 3]] {
+                memory.call_everything(&whole.as_bytes()[..length], &cycles);
+            }
         }
     }
 }
 
-/// The longest ticket of each edition and mode.
+/// The longest ticket of each edition and mode. The cycles of a plan rise, or fall in blocks, up to 4,096 and beyond.
 #[test]
 fn longest_tickets() {
     let mut memory = Memory::new();
-    let cycles: Vec<u16> = (1..=4096).collect();
+    let rising: Vec<u16> = (1..=4096).collect();
+    let mut falling = rising.clone();
+    falling.chunks_mut(1000).for_each(<[u16]>::reverse);
+    let larger: Vec<u16> = falling.iter().map(|cycle| cycle * 15).collect();
     let list: Vec<u8> = (0..4096).map(|position| (position % 32) as u8).collect();
     for ticket in tickets("2004001000", &list) {
-        memory.call_everything(ticket.as_bytes(), &cycles);
+        for cycles in [&rising, &falling, &larger] {
+            memory.call_everything(ticket.as_bytes(), cycles);
+        }
     }
 }
 

@@ -2,6 +2,7 @@
 //! The tally at the end says how much was compared, and asserts that no edition, refusal or verdict was left out.
 
 mod generate;
+mod judged;
 mod library;
 mod same;
 mod tally;
@@ -13,6 +14,10 @@ use tally::Tally;
 /// The comparison is split in two parts, for two cores.
 const PARTS: u64 = 2;
 const TICKETS: u64 = 120_000 / PARTS;
+/// Tickets with several plans for the checker alone: short ones, and ones of 4,096 frames, which take the reference long.
+const FOR_CHECKER: u64 = 6_000 / PARTS;
+const LONG_FOR_CHECKER: u64 = 12 / PARTS;
+const PLANS_FOR_CHECKER: u64 = 10;
 const SAVER_SEQUENCES: u64 = 3_000 / PARTS;
 const FULL_SAVERS: u64 = 20 / PARTS;
 
@@ -43,6 +48,13 @@ fn compare_part(seed: u64) -> Tally {
     }
     for _ in 0..FULL_SAVERS {
         same::saving::compare_full_saver(&mut random, &mut tally);
+    }
+    for _ in 0..FOR_CHECKER {
+        let frames = random.between(30, 300);
+        same::judging::compare(&mut random, frames, PLANS_FOR_CHECKER, &mut tally);
+    }
+    for _ in 0..LONG_FOR_CHECKER {
+        same::judging::compare(&mut random, 4096, PLANS_FOR_CHECKER, &mut tally);
     }
     tally
 }

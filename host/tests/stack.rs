@@ -165,7 +165,8 @@ fn tickets() -> Vec<Vec<u8>> {
 }
 
 /// A plan for each ticket and several more: the ticket's own; its cycles spread up to 65,535; each frame in a cycle of its
-/// own, forward and backward; all frames in one cycle; no cycles; and a plan of another length.
+/// own, forward, backward with cycles up to 4,096 and with larger ones, and backward in blocks of 192; all frames in one
+/// cycle; no cycles; and a plan of another length.
 fn tickets_with_plans() -> Vec<(Vec<u8>, Vec<u16>)> {
     let mut pairs = Vec::new();
     for ticket in tickets() {
@@ -173,12 +174,25 @@ fn tickets_with_plans() -> Vec<(Vec<u8>, Vec<u16>)> {
         let mut own = vec![0; frames.into()];
         unsafe { raw::dockplan_plan(ticket.as_ptr(), ticket.len(), own.as_mut_ptr(), own.len()) };
         let spread = own.iter().map(|cycle| cycle.saturating_mul(15)).collect();
-        let forward = (1..=frames).collect();
-        let backward = (1..=frames).rev().map(|cycle| cycle * 15).collect();
+        let forward: Vec<u16> = (1..=frames).collect();
+        let backward: Vec<u16> = (1..=frames).rev().collect();
+        let mut in_blocks = forward.clone();
+        in_blocks.chunks_mut(192).for_each(<[u16]>::reverse);
+        let larger = backward.iter().map(|cycle| cycle * 15).collect();
         let in_one_cycle = vec![1; frames.into()];
         let no_cycles = vec![0; frames.into()];
         let longer = vec![1; usize::from(frames) + 1];
-        let plans = [own, spread, forward, backward, in_one_cycle, no_cycles, longer];
+        let plans = [
+            own,
+            spread,
+            forward,
+            backward,
+            larger,
+            in_blocks,
+            in_one_cycle,
+            no_cycles,
+            longer,
+        ];
         pairs.extend(plans.map(|plan| (ticket.clone(), plan)));
     }
     pairs

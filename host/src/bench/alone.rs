@@ -40,7 +40,7 @@ fn save(pool: u16, cards: &[usize], closing: bool) {
 fn rows(list: &List) -> Vec<Alone> {
     let ticket = list.ticket(READ);
     let own = own_plan(&LIBRARY, &ticket);
-    let [_, _, spread] = inputs::foreign_plans();
+    let [_, _, spread] = inputs::plans_in_blocks();
     let for_spread = list.ticket_with_pool(READ, FOREIGN_POOL);
     let frames = list.cards.len();
     let of_ticket = ticket.clone();

@@ -153,14 +153,17 @@ fn damage(random: &mut Random, text: &mut Vec<u8>) {
 }
 
 /// Plans made from a good one: itself; some cycles changed; the cycles spread up to 65,535; each frame in a cycle of its
-/// own, from the first cycle, from the second, and up to the last; small numbers; any numbers; and one of another length.
+/// own, from the first cycle, from the second, and up to the last; small numbers; any numbers; the cycles falling in one
+/// block from some frame on, and in blocks of some length; the last frame in another one's cycle; all cycles so much
+/// later that the largest is 4,096, is 4,097, or is any number up to 65,535; and one of another length.
 pub fn plans(random: &mut Random, good: &[u16]) -> Vec<Vec<u16>> {
     let frames = good.len();
     let mut changed = good.to_vec();
     for _ in 0..random.below(4).min(frames) {
         changed[random.below(frames)] = random.below(frames + 2) as u16;
     }
-    let factor = u16::MAX / good.iter().max().copied().unwrap_or(0).max(1);
+    let largest = good.iter().max().copied().unwrap_or(0);
+    let factor = u16::MAX / largest.max(1);
     let spread = changed.iter().map(|cycle| cycle.wrapping_mul(factor)).collect();
     let one_by_one = |first: usize| (first..first + frames).map(|cycle| cycle as u16).collect();
     let few = 2 + random.below(frames + 2);
@@ -168,7 +171,27 @@ pub fn plans(random: &mut Random, good: &[u16]) -> Vec<Vec<u16>> {
     let any = (0..frames).map(|_| random.below(65_536) as u16).collect();
     let longer = vec![1; frames + 1];
     let [first, second, last] = [1, 2, 65_536 - frames].map(one_by_one);
-    vec![good.to_vec(), changed, spread, first, second, last, small, any, longer]
+    let from_some_frame = falling_from(frames, random.below(frames + 1));
+    let in_blocks = falling_in_blocks(frames, 1 + random.below(frames + 1));
+    let mut at_the_end = good.to_vec();
+    if let Some(cycle) = at_the_end.last_mut() {
+        *cycle = good[random.below(frames)];
+    }
+    let any_top = usize::from(largest) + random.below(65_536 - usize::from(largest));
+    let mut plans = vec![good.to_vec(), changed, spread, first, second, last, small, any, longer];
+    for top in [MAX_FRAMES, MAX_FRAMES + 1, any_top] {
+        let by = top - usize::from(largest);
+        plans.push(later(&at_the_end, by));
+        plans.push(later(&in_blocks, by));
+    }
+    plans.extend([from_some_frame, in_blocks, at_the_end]);
+    plans
+}
+
+/// Every cycle so many cycles later, 65,535 where it would be over. A frame without one gets none.
+fn later(plan: &[u16], by: usize) -> Vec<u16> {
+    let later = |&cycle: &u16| if cycle == 0 { 0 } else { cycle.saturating_add(by as u16) };
+    plan.iter().map(later).collect()
 }
 
 /// A plan that no planner of ours made.
@@ -184,10 +207,21 @@ fn falling(frames: usize, starts: &[usize]) -> Vec<u16> {
     starts.iter().zip(ends).flat_map(block).collect()
 }
 
-/// Dear plans for 4,096 frames and a pool of 1,000. A falling cycle makes the checker search the earlier frames of the card.
-/// A pool that is overfull in the last block alone makes it count up to there, and a cycle over 4,096 wherever it is.
-pub fn foreign_plans() -> [Foreign; 3] {
-    let valid = falling(MAX_FRAMES, &[0, 1000, 2000, 3000, 4000]);
+fn falling_in_blocks(frames: usize, block: usize) -> Vec<u16> {
+    let starts: Vec<usize> = (0..frames.max(1)).step_by(block).collect();
+    falling(frames, &starts)
+}
+
+/// One frame a cycle: in list order up to the frame at `start`, and falling from there on.
+fn falling_from(frames: usize, start: usize) -> Vec<u16> {
+    let starts: Vec<usize> = (0..=start).collect();
+    falling(frames, &starts)
+}
+
+/// Plans for 4,096 frames and a pool of 1,000 in which most cycles fall, so that a frame may share its card with any
+/// earlier one: a valid one, one whose pool is overfull in the last block alone, and one with cycles over 4,096.
+pub fn plans_in_blocks() -> [Foreign; 3] {
+    let valid = falling_in_blocks(MAX_FRAMES, 1000);
     let overfull = falling(MAX_FRAMES, &[0, 1000, 2000, 3000]);
     let spread = valid.iter().map(|cycle| cycle * 15).collect();
     [
@@ -204,4 +238,69 @@ pub fn foreign_plans() -> [Foreign; 3] {
             cycles: spread,
         },
     ]
+}
+
+/// Plans that no pool has room for, early in the list or from its middle on. No card is shared.
+pub fn hopeless_plans() -> [Foreign; 2] {
+    [
+        Foreign {
+            name: "falling throughout",
+            cycles: falling_from(MAX_FRAMES, 0),
+        },
+        Foreign {
+            name: "falling from the middle",
+            cycles: falling_from(MAX_FRAMES, MAX_FRAMES / 2),
+        },
+    ]
+}
+
+/// Plans that differ little from `own`, the list's own read or save plan: with one fault, as late in the list as can be, and
+/// valid with cycles over 4,096.
+pub fn plans_like_own(list: &List, read: bool, own: &[u16]) -> [Foreign; 3] {
+    [
+        Foreign {
+            name: "own, shared at the end",
+            cycles: shared_at_the_end(list, read, own),
+        },
+        Foreign {
+            name: "own, overfull at the end",
+            cycles: overfull_at_the_end(list, read, own),
+        },
+        Foreign {
+            name: "own, 5,000 cycles later",
+            cycles: later(own, 5000),
+        },
+    ]
+}
+
+/// The last frame and the one before it on its card get the same cycle: the later one of a read, where the last frame's is
+/// the last of all, and the earlier one of a save. So no pool has more frames.
+fn shared_at_the_end(list: &List, read: bool, own: &[u16]) -> Vec<u16> {
+    let mut plan = own.to_vec();
+    if let Some((last, earlier)) = list.cards.split_last() {
+        if let Some(before) = earlier.iter().rposition(|card| card == last) {
+            let end = earlier.len();
+            if read {
+                plan[before] = own[end];
+            } else {
+                plan[end] = own[before];
+            }
+        }
+    }
+    plan
+}
+
+/// A read: the last frame that has as many frames behind it as the pool holds comes after all others. A save: the last
+/// frame comes before all others.
+fn overfull_at_the_end(list: &List, read: bool, own: &[u16]) -> Vec<u16> {
+    let end = own.len() - 1;
+    if read {
+        let mut plan = own.to_vec();
+        plan[end - list.pool] = own.iter().max().map_or(1, |largest| largest + 1);
+        plan
+    } else {
+        let mut plan = later(own, 1);
+        plan[end] = 1;
+        plan
+    }
 }

@@ -10,7 +10,7 @@ const SAVE: usize = 1;
 const SAVE_AND_KEEP: usize = 2;
 pub const MODES: [usize; 3] = [READ, SAVE, SAVE_AND_KEEP];
 
-/// The pool that the foreign plans are made for.
+/// The pool that the foreign plans in blocks are made for.
 pub const FOREIGN_POOL: usize = 1000;
 
 /// The library's part of the faster C's time, and of the fewer instructions, that a row may reach.
@@ -134,21 +134,28 @@ fn seconds_rows(list: &List) -> Vec<Row> {
     ]
 }
 
-/// The checker on plans that are not ours, the dearest found.
+/// The checker on plans that are not ours: in blocks, for a pool of their own; hopeless ones; and ones close to ours.
 fn foreign_rows(list: &List) -> Vec<Row> {
-    let plans = inputs::foreign_plans();
-    let row = |mode, plan: &inputs::Foreign| Row {
-        call: "checker",
-        given: format!("{}, at random, pool 1,000, {}", mode_name(mode), plan.name),
-        target: OTHERS,
-        make: check,
-        work: Work::new(list.ticket_with_pool(mode, FOREIGN_POOL), plan.cycles.clone()),
+    let of_mode = |mode| {
+        let own = own_plan(&LIBRARY, &list.ticket(mode));
+        let row = |list_name: &str, ticket: Vec<u8>, plan: inputs::Foreign| Row {
+            call: "checker",
+            given: format!("{}, {list_name}, {}", mode_name(mode), plan.name),
+            target: OTHERS,
+            make: check,
+            work: Work::new(ticket, plan.cycles),
+        };
+        let in_blocks = inputs::plans_in_blocks().map(|plan| {
+            let ticket = list.ticket_with_pool(mode, FOREIGN_POOL);
+            row("at random, pool 1,000", ticket, plan)
+        });
+        let others = inputs::hopeless_plans()
+            .into_iter()
+            .chain(inputs::plans_like_own(list, mode == READ, &own));
+        let others = others.map(|plan| row(list.name, list.ticket(mode), plan));
+        in_blocks.into_iter().chain(others).collect::<Vec<Row>>()
     };
-    let modes = [READ, SAVE];
-    modes
-        .iter()
-        .flat_map(|&mode| plans.iter().map(move |plan| row(mode, plan)))
-        .collect()
+    [READ, SAVE].into_iter().flat_map(of_mode).collect()
 }
 
 pub fn rows(lists: &[List]) -> Vec<Row> {

@@ -118,10 +118,17 @@ pub fn print_head(c: &[Implementation], counted: bool) {
         "Rust-ref   src/reference by {}: simple and not tuned, its checker counts by the rule",
         first_line("rustc")
     );
-    println!("given      4,096 frames over 32 cards, and the kind of ticket, of edition 01 where none is named; the checker also a plan: the");
-    println!("           planner's own, or a foreign one that is dear to check, its cycles falling in blocks of 1,000 frames or, where it is");
-    println!("           overfull late, in a last one of 1,096");
-    println!("ns         nanoseconds a frame: the least of {TURNS} runs of 0.25 ms, all taken in turns; buffers are not cleared between calls");
+    println!("given      4,096 frames over 32 cards, and the kind of ticket, of edition 01 where none is named; the checker also a plan:");
+    println!("           own plan: the planner's for this ticket, which is valid");
+    println!("           falling: one frame a cycle, falling in blocks of 1,000, valid; or in a last block of 1,096, overfull late; or with");
+    println!("           each cycle 15 times as large, up to 61,440");
+    println!("           falling throughout or from the middle: one frame a cycle in one falling block, from the start of the list or from");
+    println!("           its middle on, so that the pool is overfull from there on (a save: 192 frames later)");
+    println!("           own, shared or overfull at the end: the planner's with one fault, at the last frame (a read is overfull at the last");
+    println!("           one that can be, 192 before it)");
+    println!("           own, 5,000 cycles later: the planner's with 5,000 added to each cycle, valid and over 4,096");
+    println!("ns         nanoseconds a frame, of all 4,096 also where the check ends early: the least of {TURNS} runs of 0.25 ms, all taken in");
+    println!("           turns; buffers are not cleared between calls");
     println!(
         "in         instructions a frame, {}",
         if counted {

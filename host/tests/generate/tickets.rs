@@ -54,6 +54,11 @@ pub fn any(random: &mut Random) -> Vec<u8> {
 /// A ticket that is accepted.
 fn valid(random: &mut Random) -> Vec<u8> {
     let frames = length(random);
+    of_length(random, frames)
+}
+
+/// A ticket of that many frames that is accepted.
+pub fn of_length(random: &mut Random, frames: usize) -> Vec<u8> {
     written(&fields(random, frames))
 }
 

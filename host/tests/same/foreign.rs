@@ -22,7 +22,7 @@ pub fn compare(random: &mut Random, ticket: &[u8], header: &TicketAnswer, own: &
     }
     for plan in handed_in {
         let (checked, run) = compare_plan(ticket, &plan);
-        tally.plan(header.mode, &checked, &run);
+        tally.plan(header.mode, &plan, &checked, &run);
     }
 }
 

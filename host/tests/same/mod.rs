@@ -2,6 +2,7 @@
 //! library's answers for two tickets that must be answered alike.
 
 pub mod foreign;
+pub mod judging;
 pub mod planning;
 pub mod reading;
 pub mod saving;

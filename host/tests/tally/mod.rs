@@ -1,12 +1,17 @@
 //! Counts of what was compared, so that a comparison of too little is seen.
 
+mod verdicts;
+
 use dockplan::raw::{CheckAnswer, RunAnswer};
+use verdicts::Verdicts;
 
 /// How much was compared, and how often each refusal, each verdict and each end of a run occurred.
 #[derive(Default)]
 pub struct Tally {
     pub tickets: u64,
     pub plans: u64,
+    /// Plans for the checker alone.
+    pub judged: u64,
     pub saver_calls: u64,
     pub wrapped: u64,
     /// Tickets with a small letter among their digits, and of these the accepted ones with frames.
@@ -20,8 +25,7 @@ pub struct Tally {
     /// By number. A ticket's own refusals are those above.
     later_refusals: [u64; NUMBERS],
     saver_refusals: [u64; NUMBERS],
-    /// By verdict, for read and for save.
-    verdicts: [[u64; 5]; 2],
+    pub verdicts: Verdicts,
     broken: u64,
     complete: u64,
     incomplete: u64,
@@ -38,7 +42,6 @@ const OF_EDITION_01: [usize; 8] = [1, 3, 4, 5, 6, 7, 8, 9];
 const OF_EDITION_02: [usize; 9] = [1, 3, 4, 5, 6, 7, 8, 9, 17];
 /// The refusals that calls on an accepted ticket can meet.
 const LATER: [usize; 4] = [10, 11, 12, 16];
-const VERDICTS: [&str; 5] = ["refused", "valid", "no cycle", "shared card", "overfull"];
 
 impl Tally {
     /// Counts a ticket with its own refusal, or 0.
@@ -70,12 +73,10 @@ impl Tally {
     }
 
     /// Counts a plan that was checked and run for an accepted ticket.
-    pub fn plan(&mut self, mode: u8, checked: &CheckAnswer, run: &RunAnswer) {
+    pub fn plan(&mut self, mode: u8, plan: &[u16], checked: &CheckAnswer, run: &RunAnswer) {
         self.plans += 1;
         self.later_refusal(checked.refusal);
-        if let Some(verdicts) = self.verdicts.get_mut(usize::from(mode)) {
-            verdicts[usize::from(checked.verdict)] += 1;
-        }
+        self.verdicts.count(mode, plan, checked);
         if run.refusal == 0 {
             self.broken += u64::from(run.broken);
             self.complete += u64::from(run.complete);
@@ -86,6 +87,7 @@ impl Tally {
     pub fn add(&mut self, other: &Tally) {
         self.tickets += other.tickets;
         self.plans += other.plans;
+        self.judged += other.judged;
         self.saver_calls += other.saver_calls;
         self.wrapped += other.wrapped;
         self.small_letters += other.small_letters;
@@ -99,13 +101,14 @@ impl Tally {
         }
         add_each(&mut self.later_refusals, &other.later_refusals);
         add_each(&mut self.saver_refusals, &other.saver_refusals);
-        for (sum, counts) in self.verdicts.iter_mut().zip(&other.verdicts) {
-            add_each(sum, counts);
-        }
+        self.verdicts.add(&other.verdicts);
     }
 
     pub fn print(&self) {
-        println!("{} tickets, {} plans checked and run", self.tickets, self.plans);
+        println!(
+            "{} tickets, {} plans checked and run, {} plans for the checker alone",
+            self.tickets, self.plans, self.judged
+        );
         println!(
             "{} saver calls, {} tickets for the wrappers",
             self.saver_calls, self.wrapped
@@ -123,12 +126,7 @@ impl Tally {
                 first[number], second[number], others[number], self.later_refusals[number], self.saver_refusals[number]
             );
         }
-        for (verdict, name) in VERDICTS.iter().enumerate().skip(1) {
-            println!(
-                "{name}: read {}, save {}",
-                self.verdicts[0][verdict], self.verdicts[1][verdict]
-            );
-        }
+        self.verdicts.print();
         println!(
             "runs: {} broken off, {} complete, {} incomplete",
             self.broken, self.complete, self.incomplete
@@ -137,7 +135,9 @@ impl Tally {
 
     /// The comparison had enough of everything.
     pub fn assert_not_vacuous(&self) {
-        assert!(self.tickets >= 100_000 && self.plans >= 100_000 && self.saver_calls >= 100_000);
+        assert!(
+            self.tickets >= 100_000 && self.plans >= 100_000 && self.judged >= 50_000 && self.saver_calls >= 100_000
+        );
         assert!(self.wrapped >= 1_000);
         assert!(self.small_letters >= 2_000 && self.small_letters_accepted >= 1_000);
         assert!(self.broken >= 1_000 && self.complete >= 1_000 && self.incomplete >= 1_000);
@@ -148,12 +148,7 @@ impl Tally {
         often_enough("tickets of edition 02", second, &OF_EDITION_02);
         often_enough("later calls", &self.later_refusals, &LATER);
         often_enough("savers", &self.saver_refusals, &OF_SAVER);
-        for (verdict, name) in VERDICTS.iter().enumerate().skip(1) {
-            assert!(
-                self.verdicts.iter().all(|counts| counts[verdict] >= 1_000),
-                "verdict {name} is too rare"
-            );
-        }
+        self.verdicts.assert_not_rare();
     }
 }
 
