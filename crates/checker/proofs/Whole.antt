@@ -6,7 +6,9 @@ use mathlib.Core.Logic.{⊎-elim}
 use mathlib.Core.Bool.{Bool, true, false}
 use mathlib.Core.List.{List}
 use native.Mathlib.Omega.{arith}
+use lib.Dec.{leb}
 use lib.ListN.{length}
+use borrow.Author.Tests.{leb-true}
 use Rattle.counting.proofs.Lists.{le-largest}
 use Rattle.schedule.specs.Schedule.{cyclesIn, Correct}
 use Rattle.schedule.specs.Dock.{emptyDock}
@@ -17,14 +19,12 @@ use Rattle.schedule.proofs.Exact.{valid-correct, otherwise}
 use Rattle.header.specs.Limits.{maxFrames}
 use Rattle.pool_counts.specs.Backlog.{backlogOf}
 use Rattle.pool_counts.specs.Pools.{peakOf}
-use Rattle.pool_counts.specs.Asked.{Asked}
 use Rattle.low_pools.specs.Table.{Low}
-use Rattle.plan_faults.specs.Faults.{Checking, clearOf, Decided, faultAt, foundIn, firstFault}
+use Rattle.plan_faults.specs.Faults.{Checking, Decided, faultAt, foundIn, firstFault}
 use Rattle.plan_faults.specs.Searches.{LowCycles}
 use Rattle.plan_faults.specs.declared.Found.{Found}
 use Rattle.plan_faults.specs.declared.Found.the-variants.{Nothing}
-use Rattle.plan_faults.proofs.FirstFault.{clear, has-cycle, all-roomy}
-use Rattle.plan_faults.proofs.Deciding.{by-cards}
+use Rattle.plan_faults.proofs.FirstFault.{clear, all-roomy}
 use Rattle.checker.specs.Check.{atFault, answerOf, verdictOn}
 use Rattle.checker.specs.Completed.{completed}
 
@@ -52,27 +52,20 @@ completed-verdict save m cards cycles r T peak T′ peak′ n r-is same =
     (otherwise (backlogOf save) m cards cycles (length cards) 0 clear (valid T′ peak′))
 
 module _ {cards cycles : List ℕ} (f : Checking cards cycles) where
-  few-cycles : length cycles ≤ maxFrames
+  pub few-cycles : length cycles ≤ maxFrames
   few-cycles = omega (arith, f .same-length, f .few)
-
-  -- what is asked before the pools of the clear frames are counted
-  pub asked : {c : ℕ} → c ≡ clearOf cards cycles (length cards) → Asked cycles c
-  asked {c} c-is =
-      let known = by-cards true 0 cards cycles c-is refl in
-      record {
-        few = few-cycles;
-        inside = omega (arith, known .clear-inside, f .same-length);
-        from-one = λ i l. omega (arith, has-cycle known i l);
-      }
 
   module _ {top : ℕ} (top-is : top ≡ cyclesIn cycles) where
     -- a plan with no cycle over 4,096
-    module _ (l : top ≤ maxFrames) where
+    module _ (e : leb top maxFrames ≡ true) where
+      up-to-limit : top ≤ maxFrames
+      up-to-limit = leb-true top maxFrames e
+
       pub low-plan : Low cycles top
-      low-plan = record { few = few-cycles; top-low = l; up-to-top = λ i h. omega (arith, top-is, le-largest cycles i) }
+      low-plan = record { few = few-cycles; top-low = up-to-limit; up-to-top = λ i h. omega (arith, top-is, le-largest cycles i) }
 
       pub low-cycles : LowCycles cycles
-      low-cycles = record { each = λ i h. omega (arith, top-is, le-largest cycles i) }
+      low-cycles = record { each = λ i h. omega (arith, top-is, up-to-limit, le-largest cycles i) }
 
     -- the first fault, or T and the peak: a save has none, a read's is that of its run
     pub judged :

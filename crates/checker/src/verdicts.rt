@@ -1,8 +1,11 @@
 // The verdict on a plan: its first fault, or T and the peak.
 ghost use mathlib.Core.Path.{_≡_};
+ghost use mathlib.Core.Bool.{true};
 ghost use Prim.Native.Nat.{_≤_};
-ghost use Rattle.schedule.specs.Schedule.{cyclesIn};
+ghost use lib.ListN.{length};
 ghost use Rattle.header.specs.Limits.{maxFrames};
+ghost use Rattle.pool_counts.specs.Pools.{roomyOf, peakOf};
+ghost use Rattle.low_pools.specs.Table.{Low};
 ghost use Rattle.plan_faults.specs.Faults.{Checking};
 ghost use Rattle.checker.specs.Check.{answerOf, verdictOn};
 ghost use Rattle.checker.specs.Completed.{completed};
@@ -10,6 +13,7 @@ use crate::Verdict;
 use counting::Cycle;
 use header::limits;
 use plan_faults::Found;
+use pool_counts::Room;
 
 // The fault that was found; or valid, with T and the peak.
 fn complete(found: Found, top: Cycle, peak: u16) -> Verdict
@@ -23,26 +27,16 @@ fn complete(found: Found, top: Cycle, peak: u16) -> Verdict
     }
 }
 
-// The verdict on a plan with no cycle over 4,096, as our own have none: tables tell which frames have room and which share a card.
-fn verdict_on_low(save: bool, cards: &[u8], plan: &[u16], m: u16, top: Cycle) -> Verdict
-    requires { ⌜ Checking (now cards) (now plan) × (1 ≤ m) × (top .0 ≡ cyclesIn (now plan)) × (top .0 ≤ maxFrames) ⌝ }
-    ensures { λ r. ⌜ r ≡ answerOf (verdictOn save m (now (cards .entry)) (now (plan .entry))) ⌝ }
+// The pools of a plan: from a table where no cycle is over 4,096, as in our own plans, and else counted.
+fn pools(save: bool, low: bool, plan: &[u16], top: Cycle, m: u16) -> Room
+    requires { ⌜ (length (now plan) ≤ maxFrames) × (1 ≤ m) × (low ≡ true → Low (now plan) (top .0)) ⌝ }
+    ensures roomy { λ r. ⌜ r .roomy ≡ roomyOf save m (now (plan .entry)) ⌝ }
+    ensures peak { λ r. ⌜ (r .roomy ≡ length (now (plan .entry)) → r .before ≡ peakOf save (now (plan .entry))) ⌝ }
 {
-    let room = low_pools::pools(save, plan, top, m);
-    let clear = plan_faults::clear_low(save, cards, plan, m, room.roomy);
-    let found = plan_faults::first_fault(save, cards, plan, m, clear, room.roomy);
-    complete(found, top, room.before)
-}
-
-// The verdict on a plan with a cycle over 4,096: cards are searched for and pools counted, those of the frames before the first card fault.
-fn verdict_on_late(save: bool, cards: &[u8], plan: &[u16], m: u16, top: Cycle) -> Verdict
-    requires { ⌜ Checking (now cards) (now plan) × (top .0 ≡ cyclesIn (now plan)) ⌝ }
-    ensures { λ r. ⌜ r ≡ answerOf (verdictOn save m (now (cards .entry)) (now (plan .entry))) ⌝ }
-{
-    let clear = plan_faults::searched::clear(cards, plan);
-    let room = pool_counts::plans::pools(save, plan, m, clear);
-    let found = plan_faults::first_fault(save, cards, plan, m, clear, room.roomy);
-    complete(found, top, room.before)
+    if low {
+        return low_pools::pools(save, plan, top, m);
+    }
+    pool_counts::plans::pools(save, plan, m)
 }
 
 // The verdict on any plan.
@@ -51,8 +45,9 @@ pub(crate) fn verdict(save: bool, cards: &[u8], plan: &[u16], m: u16) -> Verdict
     ensures { λ r. ⌜ r ≡ answerOf (verdictOn save m (now (cards .entry)) (now (plan .entry))) ⌝ }
 {
     let top = schedule::cycles_in(plan);
-    if limits::MAX_FRAMES < top.0 {
-        return verdict_on_late(save, cards, plan, m, top);
-    }
-    verdict_on_low(save, cards, plan, m, top)
+    let low = top.0 <= limits::MAX_FRAMES;
+    let room = pools(save, low, plan, top, m);
+    let clear = plan_faults::clear(save, low, cards, plan, m, room.roomy);
+    let found = plan_faults::first_fault(save, cards, plan, m, clear, room.roomy);
+    complete(found, top, room.before)
 }

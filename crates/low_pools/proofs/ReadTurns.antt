@@ -19,11 +19,11 @@ use Rattle.low_pools.proofs.Ahead.{backlog-ahead, before-ahead}
 
 -- after i frames, all with room
 pub record TableTurn (m : ℕ) (cycles : List ℕ) (i ceiling before : ℕ) : Type 0 where
-  pub turn : ReadTurn m cycles (length cycles) i ceiling
+  pub turn : ReadTurn m cycles i ceiling
   pub before-is : before ≡ largest (tabulate i (readBefore cycles))
 
 pub table-first : (m : ℕ) (cycles : List ℕ) → TableTurn m cycles 0 0 0
-table-first m cycles = record { turn = read-first m cycles (length cycles); before-is = refl }
+table-first m cycles = record { turn = read-first m cycles; before-is = refl }
 
 module _ {m : ℕ} {cycles : List ℕ} {i ceiling before : ℕ} (v : TableTurn m cycles i ceiling before) where
   module _ {c : ℕ} (l : i < length cycles) (c-is : c ≡ cycleOf cycles i) where
@@ -43,7 +43,7 @@ module _ {m : ℕ} {cycles : List ℕ} {i ceiling before : ℕ} (v : TableTurn m
       pub place-inside : c + 1 < length table
       place-inside = omega (arith, t .long, t .low .top-low, t .low .up-to-top i l)
 
-      pub table-ends : m ≤ getD table (c + 1) 0 - i - 1 → i ≡ roomyOf false m cycles (length cycles)
+      pub table-ends : m ≤ getD table (c + 1) 0 - i - 1 → i ≡ roomyOf false m cycles
       table-ends g = roomy-ends (v .turn .roomy) l (omega (arith, g, entry-after))
 
       pub table-ahead :
@@ -64,7 +64,7 @@ module _ {m : ℕ} {cycles : List ℕ} {i ceiling before : ℕ} (v : TableTurn m
         }
 
   pub table-all : length cycles ≤ i
-      → (length cycles ≡ roomyOf false m cycles (length cycles)) × (before ≡ largest (tabulate (length cycles) (readBefore cycles)))
+      → (length cycles ≡ roomyOf false m cycles) × (before ≡ largest (tabulate (length cycles) (readBefore cycles)))
   table-all l =
       let e : i ≡ length cycles = omega (arith, v .turn .roomy .inside) in
       (roomy-all (v .turn .roomy) l, rw (← e) (v .before-is))

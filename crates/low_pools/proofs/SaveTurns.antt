@@ -54,7 +54,7 @@ module _ (cycles : List ℕ) (i : ℕ) where
 
 -- after i frames, all with room
 pub record SaveTurn (m : ℕ) (cycles due : List ℕ) (i full above : ℕ) : Type 0 where
-  pub roomy : Roomy true m cycles (length cycles) i
+  pub roomy : Roomy true m cycles i
   pub long : length due ≡ tableLength
   pub due-is : (c : ℕ) → c ≤ maxFrames → getD due c 0 ≡ dueIn cycles i c
   pub above-is : above ≡ dueFrom cycles i full
@@ -65,7 +65,7 @@ pub record SaveTurn (m : ℕ) (cycles due : List ℕ) (i full above : ℕ) : Typ
 pub save-first : (m : ℕ) (cycles due : List ℕ) → Zeroed due → SaveTurn m cycles due 0 0 0
 save-first m cycles due z =
     record {
-      roomy = roomy-first true m cycles (length cycles);
+      roomy = roomy-first true m cycles;
       long = z .long;
       due-is = λ c l. z .zeros c;
       above-is = refl;
@@ -104,7 +104,7 @@ module _ {m : ℕ} {cycles due : List ℕ} {i full above : ℕ} (v : SaveTurn m 
     pub cycle-low : c ≤ maxFrames
     cycle-low = omega (arith, low .up-to-top i l)
 
-    pub save-ends : c < full → i ≡ roomyOf true m cycles (length cycles)
+    pub save-ends : c < full → i ≡ roomyOf true m cycles
     save-ends g = roomy-ends (v .roomy) l (v .reached (cycleOf cycles i) (omega arith))
 
     pub due-small : getD due c 0 < maxFrames
@@ -137,5 +137,5 @@ module _ {m : ℕ} {cycles due : List ℕ} {i full above : ℕ} (v : SaveTurn m 
           reached = λ x k. omega (arith, v .reached x k, sum-longer i (i + 1) (λ j. bit (leb x (cycleOf cycles j))) (omega arith));
         }
 
-  pub save-all : length cycles ≤ i → length cycles ≡ roomyOf true m cycles (length cycles)
+  pub save-all : length cycles ≤ i → length cycles ≡ roomyOf true m cycles
   save-all = roomy-all (v .roomy)

@@ -17,7 +17,7 @@ use pool_counts::Room;
 // The pools of a plan whose cycles are up to `top`.
 pub fn pools(save: bool, plan: &[u16], top: Cycle, m: u16) -> Room
     requires { ⌜ Low (now plan) (top .0) × (1 ≤ m) ⌝ }
-    ensures roomy { λ r. ⌜ r .roomy ≡ roomyOf save m (now (plan .entry)) (length (now (plan .entry))) ⌝ }
+    ensures roomy { λ r. ⌜ r .roomy ≡ roomyOf save m (now (plan .entry)) ⌝ }
     ensures peak { λ r. ⌜ (r .roomy ≡ length (now (plan .entry)) → r .before ≡ peakOf save (now (plan .entry))) ⌝ }
 {
     let mut table = [0u16; limits::FRAMES + 2];

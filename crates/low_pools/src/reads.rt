@@ -3,7 +3,6 @@
 // ones, and there the count is a difference of the table's entry and the frame's position.
 ghost use mathlib.Core.Path.{_≡_};
 ghost use mathlib.Core.Bool.{false};
-ghost use lib.ListN.{length};
 ghost use Rattle.counting.specs.Count.{tabulate, largest};
 ghost use Rattle.schedule.specs.Closed.{readBefore};
 ghost use Rattle.pool_counts.specs.Pools.{roomyOf};
@@ -16,7 +15,7 @@ use pool_counts::Room;
 //   before    the most frames that are read before one of those so far
 pub(crate) fn roomy(plan: &[u16], top: Cycle, table: &[u16], m: u16) -> Room
     requires { ⌜ Table (now plan) (now table) (top .0) ⌝ }
-    ensures roomy { λ r. ⌜ r .roomy ≡ roomyOf false m (now (plan .entry)) (length (now (plan .entry))) ⌝ }
+    ensures roomy { λ r. ⌜ r .roomy ≡ roomyOf false m (now (plan .entry)) ⌝ }
     ensures before { λ r. ⌜ r .before ≡ largest (tabulate (r .roomy) (readBefore (now (plan .entry)))) ⌝ }
 {
     let n = plan.len();

@@ -2,7 +2,6 @@
 ghost use mathlib.Core.Path.{_≡_};
 ghost use mathlib.Core.Bool.{true};
 ghost use Prim.Native.Nat.{_≤_};
-ghost use lib.ListN.{length};
 ghost use Rattle.header.specs.Limits.{maxFrames};
 ghost use Rattle.pool_counts.specs.Pools.{roomyOf};
 ghost use Rattle.low_pools.specs.Table.{Zeroed, Low};
@@ -14,7 +13,7 @@ use counting::Cycle;
 //   above    how many frames so far are after the full cycles
 pub(crate) fn roomy(plan: &[u16], m: u16, due: &mut [u16]) -> usize
     requires { ⌜ Zeroed (now due) × Low (now plan) maxFrames × (1 ≤ m) ⌝ }
-    ensures { λ r. ⌜ r ≡ roomyOf true m (now (plan .entry)) (length (now (plan .entry))) ⌝ }
+    ensures { λ r. ⌜ r ≡ roomyOf true m (now (plan .entry)) ⌝ }
 {
     let n = plan.len();
     let mut full: usize = 0;

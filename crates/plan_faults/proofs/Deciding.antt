@@ -17,49 +17,34 @@ use Rattle.plan_faults.specs.Searches.{ClearTo}
 
 -- the clear frames among the first n
 module _ (cards cycles : List ℕ) (n : ℕ) {c : ℕ} (c-is : c ≡ clearOf cards cycles n) where
-  pub clear-le : c ≤ n
+  clear-le : c ≤ n
   clear-le = omega (arith, c-is, least-le n (cardFault cards cycles))
 
-  pub clear-before : (j : ℕ) → j < c → cardFault cards cycles j ≡ false
+  clear-before : (j : ℕ) → j < c → cardFault cards cycles j ≡ false
   clear-before j l = before-least n j (cardFault cards cycles) (omega (arith, c-is))
 
   fault-next : c < n → cardFault cards cycles c ≡ true
   fault-next l = rw c-is (least-passes n (cardFault cards cycles) (omega (arith, c-is)))
 
--- the frames with room among the first n
-module _ (save : Bool) (m : ℕ) (cycles : List ℕ) (n : ℕ) {r : ℕ} (r-is : r ≡ roomyOf save m cycles n) where
+-- the frames with room
+module _ (save : Bool) (m : ℕ) (cycles : List ℕ) {r : ℕ} (r-is : r ≡ roomyOf save m cycles) where
   abbrev full : ℕ → Bool
   full i = leb m (backlogOf save cycles i)
 
-  roomy-le : r ≤ n
-  roomy-le = omega (arith, r-is, least-le n full)
+  roomy-le : r ≤ length cycles
+  roomy-le = omega (arith, r-is, least-le (length cycles) full)
 
   room-before : (j : ℕ) → j < r → backlogOf save cycles j < m
-  room-before j l = leb-false m (backlogOf save cycles j) (before-least n j full (omega (arith, r-is)))
+  room-before j l = leb-false m (backlogOf save cycles j) (before-least (length cycles) j full (omega (arith, r-is)))
 
-  full-next : r < n → m ≤ backlogOf save cycles r
-  full-next l = leb-true m (backlogOf save cycles r) (rw r-is (least-passes n full (omega (arith, r-is))))
-
--- all cards were looked at, and the pools of the clear frames
-pub by-cards :
-    (save : Bool) (m : ℕ) (cards cycles : List ℕ) {c r : ℕ} → c ≡ clearOf cards cycles (length cards) → r ≡ roomyOf save m cycles c
-    → Decided save m cards cycles c r
-by-cards save m cards cycles {c} c-is r-is =
-    let few = clear-le cards cycles (length cards) c-is in
-    record {
-      clear-inside = few;
-      clear = clear-before cards cycles (length cards) c-is;
-      card-fault = λ h l. fault-next cards cycles (length cards) c-is l;
-      roomy-inside = omega (arith, few, roomy-le save m cycles c r-is);
-      roomy = room-before save m cycles c r-is;
-      overfull-next = full-next save m cycles c r-is;
-    }
+  full-next : r < length cycles → m ≤ backlogOf save cycles r
+  full-next l = leb-true m (backlogOf save cycles r) (rw r-is (least-passes (length cycles) full (omega (arith, r-is))))
 
 -- all pools were looked at
 module _ (save : Bool) (m : ℕ) (cards cycles : List ℕ) (same : length cycles ≡ length cards) {r : ℕ}
-    (r-is : r ≡ roomyOf save m cycles (length cycles)) where
+    (r-is : r ≡ roomyOf save m cycles) where
   few : r ≤ length cards
-  few = omega (arith, same, roomy-le save m cycles (length cycles) r-is)
+  few = omega (arith, same, roomy-le save m cycles r-is)
 
   -- and so many cards that the first overfull frame is known to be clear, or all of them
   pub by-pools : {c : ℕ} → ClearTo cards cycles c → (c ≤ r → c < length cards → cardFault cards cycles c ≡ true) → Decided save m cards cycles c r
@@ -69,8 +54,8 @@ module _ (save : Bool) (m : ℕ) (cards cycles : List ℕ) (same : length cycles
         clear = v .each;
         card-fault = fault;
         roomy-inside = few;
-        roomy = room-before save m cycles (length cycles) r-is;
-        overfull-next = λ l. full-next save m cycles (length cycles) r-is (omega (arith, same, v .inside));
+        roomy = room-before save m cycles r-is;
+        overfull-next = λ l. full-next save m cycles r-is (omega (arith, same, v .inside));
       }
 
   -- the cards up to frame n, which is past the first overfull one or past all

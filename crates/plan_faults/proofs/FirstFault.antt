@@ -39,7 +39,7 @@ judged-from backlog m cards cycles (suc p) k i h =
 
 module _ {save : Bool} {m : ℕ} {cards cycles : List ℕ} {c r : ℕ} (d : Decided save m cards cycles c r) where
   module _ (j : ℕ) (l : j < c) where
-    pub has-cycle : cycleOf cycles j ≢ 0
+    has-cycle : cycleOf cycles j ≢ 0
     has-cycle e = false≢true (sym (or-first (eqb (cycleOf cycles j) 0) (shares cards cycles j) (d .clear j l)) ∙ eq-eqb (cycleOf cycles j) 0 e)
 
     alone : shares cards cycles j ≡ false

@@ -99,16 +99,17 @@ stopped {from = from} v w =
       behind = w .behind;
     }
 
-module _ {cards cycles latest : List ℕ} {i : ℕ} (v : Stopped cards cycles latest i) (l : i < length cards) where
-  pub no-cycle-stops : cycleOf cycles i ≡ 0 → i ≡ clearOf cards cycles (length cards)
+-- frame i, one of the first n
+module _ {cards cycles latest : List ℕ} {n i : ℕ} (v : Stopped cards cycles latest i) (b : n ≤ length cards) (l : i < n) where
+  pub no-cycle-stops : cycleOf cycles i ≡ 0 → i ≡ clearOf cards cycles n
   no-cycle-stops e = clear-ends (v .clear) l (fault-by-cycle cards cycles i e)
 
-  module _ (n : cycleOf cycles i ≢ 0) where
-    pub shared-stops : shares cards cycles i ≡ true → i ≡ clearOf cards cycles (length cards)
-    shared-stops s = clear-ends (v .clear) l (fault-by-card cards cycles i n s)
+  module _ (k : cycleOf cycles i ≢ 0) where
+    pub shared-stops : shares cards cycles i ≡ true → i ≡ clearOf cards cycles n
+    shared-stops s = clear-ends (v .clear) l (fault-by-card cards cycles i k s)
 
     pub clear-on : shares cards cycles i ≡ false → ClearTo cards cycles (i + 1)
-    clear-on s = clear-next (v .clear) l (no-card-fault cards cycles i n s)
+    clear-on s = clear-next (v .clear) (omega arith) (no-card-fault cards cycles i k s)
 
   pub latest-on : Latest cards cycles latest (i + 1)
-  latest-on = latest-stay (v .so-far) refl (v .behind l)
+  latest-on = latest-stay (v .so-far) refl (v .behind (omega arith))

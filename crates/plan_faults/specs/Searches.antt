@@ -38,6 +38,12 @@ pub record ClearTo (cards cycles : List ℕ) (i : ℕ) : Type 0 where
   pub inside : i ≤ length cards
   pub each : (j : ℕ) → j < i → cardFault cards cycles j ≡ false
 
+-- The first n frames are looked at, of which the first `from` are known to have no card fault.
+pub record Front (cards cycles : List ℕ) (from n : ℕ) : Type 0 where
+  pub clear : ClearTo cards cycles from
+  pub on : from ≤ n
+  pub inside : n ≤ length cards
+
 -- In the set of each cycle are the cards of the first i frames that have it.
 pub record Sets (cards cycles seen : List ℕ) (i : ℕ) : Type 0 where
   pub long : length seen ≡ maxFrames + 1

@@ -1,11 +1,10 @@
 // A card fault looked for in a table that has, for each cycle up to 4,096, the set of the cards that have a frame in it.
 ghost use mathlib.Core.Path.{_≡_};
-ghost use Prim.Native.Nat.{_+_, _^_, _≤_, _<_};
+ghost use Prim.Native.Nat.{_+_, _^_, _<_};
 ghost use lib.Dec.{eqb};
-ghost use lib.ListN.{length};
 ghost use Rattle.header.specs.Limits.{maxCards};
 ghost use Rattle.plan_faults.specs.Faults.{Checking, clearOf};
-ghost use Rattle.plan_faults.specs.Searches.{ClearTo, memberOf, Sets, LowCycles};
+ghost use Rattle.plan_faults.specs.Searches.{ClearTo, Front, memberOf, Sets, LowCycles};
 use counting::Cycle;
 use header::limits;
 
@@ -42,7 +41,7 @@ fn enter(cards: &[u8], plan: &[u16], n: usize, seen: &mut [u32])
 // How many of the first n frames are clear, where the first `from` are.
 //   seen[c]   the cards of the frames so far that have cycle c
 pub(crate) fn clear(cards: &[u8], plan: &[u16], from: usize, n: usize) -> usize
-    requires { ⌜ Checking (now cards) (now plan) × LowCycles (now plan) × ClearTo (now cards) (now plan) from × (from ≤ n) × (n ≤ length (now cards)) ⌝ }
+    requires { ⌜ Checking (now cards) (now plan) × LowCycles (now plan) × Front (now cards) (now plan) from n ⌝ }
     ensures { λ r. ⌜ r ≡ clearOf (now (cards .entry)) (now (plan .entry)) n ⌝ }
 {
     let mut seen = [0u32; limits::FRAMES + 1];

@@ -1,13 +1,13 @@
 // The first fault of a plan for a list of cards: the lowest position at fault, and of its faults the first; or nothing.
 ghost use mathlib.Core.Path.{_≡_};
-ghost use lib.ListN.{length};
+ghost use mathlib.Core.Bool.{true};
 ghost use Rattle.pool_counts.specs.Pools.{roomyOf};
-ghost use Rattle.plan_faults.specs.Faults.{Checking, Decided, firstFault};
-ghost use Rattle.plan_faults.specs.Searches.{ClearTo, LowCycles};
+ghost use Rattle.plan_faults.specs.Faults.{Checking, clearOf, Decided, firstFault};
+ghost use Rattle.plan_faults.specs.Searches.{ClearTo, Front, LowCycles};
 
 mod by_sets;
 mod rising;
-pub mod searched;
+mod searched;
 
 use counting::Position;
 use header::limits;
@@ -29,10 +29,21 @@ fn rising_frames(cards: &[u8], plan: &[u16]) -> usize
     rising::rising(cards, plan, 0, &mut latest)
 }
 
-// How many frames have a cycle that no earlier frame of their card has, up to the first that has not: as far as it matters for the first fault,
-// where `roomy` frames have room in the pool. No cycle is over 4,096.
-pub fn clear_low(save: bool, cards: &[u8], plan: &[u16], m: u16, roomy: usize) -> usize
-    requires { ⌜ Checking (now cards) (now plan) × LowCycles (now plan) × (roomy ≡ roomyOf save m (now plan) (length (now plan))) ⌝ }
+// The clear frames among the first n, where the first `from` are: looked up in a table where no cycle is over 4,096, and else searched for.
+fn clear_among(low: bool, cards: &[u8], plan: &[u16], from: usize, n: usize) -> usize
+    requires { ⌜ Checking (now cards) (now plan) × (low ≡ true → LowCycles (now plan)) × Front (now cards) (now plan) from n ⌝ }
+    ensures { λ r. ⌜ r ≡ clearOf (now (cards .entry)) (now (plan .entry)) n ⌝ }
+{
+    if low {
+        return by_sets::clear(cards, plan, from, n);
+    }
+    searched::clear(cards, plan, n)
+}
+
+// How many frames are clear, that is, have a cycle that no earlier frame of their card has, up to the first that is not: as far as it matters for the
+// first fault, where `roomy` frames have room in the pool. `low` says that no cycle is over 4,096.
+pub fn clear(save: bool, low: bool, cards: &[u8], plan: &[u16], m: u16, roomy: usize) -> usize
+    requires { ⌜ Checking (now cards) (now plan) × (low ≡ true → LowCycles (now plan)) × (roomy ≡ roomyOf save m (now plan)) ⌝ }
     ensures { λ r. ⌜ Decided save m (now (cards .entry)) (now (plan .entry)) r roomy ⌝ }
 {
     let n = cards.len();
@@ -41,12 +52,12 @@ pub fn clear_low(save: bool, cards: &[u8], plan: &[u16], m: u16, roomy: usize) -
         return first;
     }
     if roomy < n {
-        return by_sets::clear(cards, plan, first, roomy + 1);
+        return clear_among(low, cards, plan, first, roomy + 1);
     }
     if first == n {
         return n;
     }
-    by_sets::clear(cards, plan, first, n)
+    clear_among(low, cards, plan, first, n)
 }
 
 // The first fault, where `clear` frames without a card fault and `roomy` frames with room decide it.

@@ -1,6 +1,6 @@
 // A card fault looked for among all earlier frames, for plans of whatever cycles.
 ghost use mathlib.Core.Path.{_≡_};
-ghost use Prim.Native.Nat.{_<_};
+ghost use Prim.Native.Nat.{_≤_, _<_};
 ghost use lib.ListN.{length};
 ghost use Rattle.schedule.specs.Verdict.{shares};
 ghost use Rattle.plan_faults.specs.Faults.{Checking, clearOf};
@@ -27,14 +27,12 @@ fn shared(cards: &[u8], plan: &[u16], i: usize) -> bool
     false
 }
 
-// How many frames have a cycle that no earlier frame of their card has, up to the first that has not. A frame is searched for only where it is not
-// after all earlier ones of its card.
-pub fn clear(cards: &[u8], plan: &[u16]) -> usize
-    requires { ⌜ Checking (now cards) (now plan) ⌝ }
-    ensures { λ r. ⌜ r ≡ clearOf (now (cards .entry)) (now (plan .entry)) (length (now (cards .entry))) ⌝ }
+// How many of the first n frames are clear. A frame is searched for only where it is not after all earlier ones of its card.
+pub(crate) fn clear(cards: &[u8], plan: &[u16], n: usize) -> usize
+    requires { ⌜ Checking (now cards) (now plan) × (n ≤ length (now cards)) ⌝ }
+    ensures { λ r. ⌜ r ≡ clearOf (now (cards .entry)) (now (plan .entry)) n ⌝ }
 {
     let mut latest = [0u16; limits::CARDS];
-    let n = cards.len();
     let mut i = rising::rising(cards, plan, 0, &mut latest);
     while i < n {
         if plan[i] == 0 {

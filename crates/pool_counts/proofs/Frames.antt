@@ -9,18 +9,17 @@ use native.Mathlib.Numerals.{add-one}
 use native.Mathlib.Decide.{decLt, ℕ-discrete}
 use lib.Dec.{leb, ltb}
 use lib.ListN.{length, take, drop, length-take}
-use borrow.Author.Tests.{le-leb, lt-leb, leb-true}
+use borrow.Author.Tests.{le-leb, lt-leb, leb-true, le-ltb}
 use Rattle.counting.specs.Count.{bit, tabulate, largest, least}
-use Rattle.counting.proofs.Sums.{sum-cong}
+use Rattle.counting.proofs.Sums.{sum-cong, sum-zero}
 use Rattle.counting.proofs.Lists.{most-next, most-stays}
-use Rattle.counting.proofs.Bits.{up-to-the-one-before}
+use Rattle.counting.proofs.Bits.{bit-and-off, up-to-the-one-before}
 use Rattle.counting.proofs.Parts.{from-place}
 use Rattle.counting.proofs.Least.{least-found, least-none, least-le, before-least}
 use Rattle.schedule.specs.Schedule.{cycleOf, oBacklog, iBacklog}
 use Rattle.schedule.specs.Closed.{readBefore}
 use Rattle.pool_counts.specs.Backlog.{backlogOf, compared, countFirst, countUpTo, lookedAt}
 use Rattle.pool_counts.specs.Pools.{roomyOf, mostOf}
-use Rattle.pool_counts.specs.Asked.{Asked}
 use Rattle.pool_counts.proofs.Counting.{later-part, count-whole}
 use Rattle.pool_counts.proofs.Covered.{backlog-covered, before-covered, save-covered}
 use Rattle.pool_counts.proofs.Ceilings.{Ceiling, ceiling-first, ceiling-up, covering, ceiling-stays}
@@ -50,52 +49,46 @@ rule-counted save m cycles i l others same (count-is, looked-is) = (
 )
 
 -- i frames have room
-pub record Roomy (save : Bool) (m : ℕ) (cycles : List ℕ) (n i : ℕ) : Type 0 where
-  pub inside : i ≤ n
+pub record Roomy (save : Bool) (m : ℕ) (cycles : List ℕ) (i : ℕ) : Type 0 where
+  pub inside : i ≤ length cycles
   pub each : (j : ℕ) → j < i → backlogOf save cycles j < m
 
-pub roomy-first : (save : Bool) (m : ℕ) (cycles : List ℕ) (n : ℕ) → Roomy save m cycles n 0
-roomy-first save m cycles n = record { inside = omega arith; each = λ j l. absurd (omega arith) }
+pub roomy-first : (save : Bool) (m : ℕ) (cycles : List ℕ) → Roomy save m cycles 0
+roomy-first save m cycles = record { inside = omega arith; each = λ j l. absurd (omega arith) }
 
-module _ {save : Bool} {m : ℕ} {cycles : List ℕ} {n i : ℕ} (v : Roomy save m cycles n i) where
+module _ {save : Bool} {m : ℕ} {cycles : List ℕ} {i : ℕ} (v : Roomy save m cycles i) where
   not-overfull : (j : ℕ) → j < i → leb m (backlogOf save cycles j) ≡ false
   not-overfull j l = lt-leb m (backlogOf save cycles j) (v .each j l)
 
-  module _ (l : i < n) where
-    pub roomy-next : backlogOf save cycles i < m → Roomy save m cycles n (i + 1)
+  module _ (l : i < length cycles) where
+    pub roomy-next : backlogOf save cycles i < m → Roomy save m cycles (i + 1)
     roomy-next h =
         record {
           inside = omega arith;
           each = λ j k. elim (ℕ-discrete j i) [ yes e ↦ rw e h | no e ↦ v .each j (omega arith) ];
         }
 
-    pub roomy-ends : m ≤ backlogOf save cycles i → i ≡ roomyOf save m cycles n
-    roomy-ends h = sym (least-found n i (λ j. leb m (backlogOf save cycles j)) l (le-leb m (backlogOf save cycles i) h) not-overfull)
+    pub roomy-ends : m ≤ backlogOf save cycles i → i ≡ roomyOf save m cycles
+    roomy-ends h = sym (least-found (length cycles) i (λ j. leb m (backlogOf save cycles j)) l (le-leb m (backlogOf save cycles i) h) not-overfull)
 
-  pub roomy-all : n ≤ i → n ≡ roomyOf save m cycles n
-  roomy-all h = sym (least-none n (λ j. leb m (backlogOf save cycles j)) (λ j l. not-overfull j (omega arith)))
-
--- where all frames have room, all have a cycle
-pub all-from-one :
-    (save : Bool) (m : ℕ) (cycles : List ℕ) {n r : ℕ} → Asked cycles n → r ≡ roomyOf save m cycles n → length cycles ≤ r
-    → (i : ℕ) → i < length cycles → 1 ≤ cycleOf cycles i
-all-from-one save m cycles {n} a r-is h i l = a .from-one i (omega (arith, r-is, least-le n (λ j. leb m (backlogOf save cycles j))))
+  pub roomy-all : length cycles ≤ i → length cycles ≡ roomyOf save m cycles
+  roomy-all h = sym (least-none (length cycles) (λ j. leb m (backlogOf save cycles j)) (λ j l. not-overfull j (omega arith)))
 
 -- a read, i frames with room, the largest cycle of which is under the ceiling
-pub record ReadTurn (m : ℕ) (cycles : List ℕ) (n i ceiling : ℕ) : Type 0 where
-  pub roomy : Roomy false m cycles n i
+pub record ReadTurn (m : ℕ) (cycles : List ℕ) (i ceiling : ℕ) : Type 0 where
+  pub roomy : Roomy false m cycles i
   pub heights : Ceiling cycles i ceiling
 
-pub read-first : (m : ℕ) (cycles : List ℕ) (n : ℕ) → ReadTurn m cycles n 0 0
-read-first m cycles n = record { roomy = roomy-first false m cycles n; heights = ceiling-first cycles }
+pub read-first : (m : ℕ) (cycles : List ℕ) → ReadTurn m cycles 0 0
+read-first m cycles = record { roomy = roomy-first false m cycles; heights = ceiling-first cycles }
 
-module _ {m : ℕ} {cycles : List ℕ} {n i ceiling : ℕ} (v : ReadTurn m cycles n i ceiling) (l : i < n) {c : ℕ} (c-is : c ≡ cycleOf cycles i) where
+module _ {m : ℕ} {cycles : List ℕ} {i ceiling : ℕ} (v : ReadTurn m cycles i ceiling) (l : i < length cycles) {c : ℕ} (c-is : c ≡ cycleOf cycles i) where
   -- a frame ahead of all earlier ones, which is counted
-  pub read-ahead : ceiling ≤ c → iBacklog cycles i < m → ReadTurn m cycles n (i + 1) (c + 1)
+  pub read-ahead : ceiling ≤ c → iBacklog cycles i < m → ReadTurn m cycles (i + 1) (c + 1)
   read-ahead h g = record { roomy = roomy-next (v .roomy) l g; heights = ceiling-up (v .heights) c-is h }
 
   -- a frame that is not, and has room because an earlier one has
-  pub read-covered : c < ceiling → ReadTurn m cycles n (i + 1) ceiling
+  pub read-covered : c < ceiling → ReadTurn m cycles (i + 1) ceiling
   read-covered h =
       let r = covering (v .heights) c-is h in
       record {
@@ -103,55 +96,88 @@ module _ {m : ℕ} {cycles : List ℕ} {n i ceiling : ℕ} (v : ReadTurn m cycle
         heights = ceiling-stays (v .heights) c-is h;
       }
 
--- the largest number of frames that are read before one of the first i
+-- nothing is read before cycle 0
+none-before : (cycles : List ℕ) (i : ℕ) → cycleOf cycles i ≡ 0 → readBefore cycles i ≡ 0
+none-before cycles i e =
+    sum-cong (length cycles) (λ j. bit (ltb i j && ltb (cycleOf cycles j) (cycleOf cycles i))) (λ j. 0)
+    (λ j l. bit-and-off (ltb i j) (ltb (cycleOf cycles j) (cycleOf cycles i)) (le-ltb (cycleOf cycles j) (cycleOf cycles i) (omega arith)))
+    ∙ sum-zero (length cycles)
+
+-- the largest number of frames that are read before one of the first i; the ceiling is at least 1, so that cycle 0 is never ahead
 pub record Peak (cycles : List ℕ) (i ceiling most : ℕ) : Type 0 where
   pub inside : i ≤ length cycles
-  pub heights : Ceiling cycles i ceiling
+  pub from-one : 1 ≤ ceiling
+  pub under : (j : ℕ) → j < i → cycleOf cycles j < ceiling
+  pub met : 2 ≤ ceiling → (j : ℕ) × (j < i) × (suc (cycleOf cycles j) ≡ ceiling)
   pub so-far : most ≡ largest (tabulate i (readBefore cycles))
 
-pub peak-first : (cycles : List ℕ) → Peak cycles 0 0 0
-peak-first cycles = record { inside = omega arith; heights = ceiling-first cycles; so-far = refl }
+pub peak-first : (cycles : List ℕ) → Peak cycles 0 1 0
+peak-first cycles =
+    record {
+      inside = omega arith;
+      from-one = omega arith;
+      under = λ j l. absurd (omega arith);
+      met = λ l. absurd (omega arith);
+      so-far = refl;
+    }
 
 module _ {cycles : List ℕ} {i ceiling most : ℕ} (v : Peak cycles i ceiling most) where
   module _ (l : i < length cycles) {c : ℕ} (c-is : c ≡ cycleOf cycles i) where
-    pub peak-ahead :
-        ceiling ≤ c → 1 ≤ cycleOf cycles i → (others : List ℕ) → others ≡ take (length cycles - (i + 1)) (drop (i + 1) cycles) → {b x : ℕ}
-        → x ≡ countFirst false (cycleOf cycles i - 1) others (length others) → b ≡ max most x → Peak cycles (i + 1) (c + 1) b
-    peak-ahead h g others same {b} {x} x-is b-is =
-        let before : x ≡ readBefore cycles i =
-        x-is
-        ∙ ap (λ o. countFirst false (cycleOf cycles i - 1) o (length o)) (same ∙ compared-read false cycles i refl)
-        ∙ sym (later-part cycles i (cycleOf cycles i - 1) l)
-        ∙ sum-cong (length cycles) (λ j. bit (ltb i j && leb (cycleOf cycles j) (cycleOf cycles i - 1)))
-        (λ j. bit (ltb i j && ltb (cycleOf cycles j) (cycleOf cycles i)))
-        (λ j k. ap (λ t. bit (ltb i j && t)) (up-to-the-one-before (cycleOf cycles j) (cycleOf cycles i) g)) in
-        record {
-          inside = omega arith;
-          heights = ceiling-up (v .heights) c-is h;
-          so-far = omega (arith, v .so-far, b-is, before, most-next (readBefore cycles) i);
-        }
+    module _ (h : ceiling ≤ c) where
+      pub has-cycle : 1 ≤ cycleOf cycles i
+      has-cycle = omega (arith, v .from-one)
+
+      pub peak-ahead :
+          (others : List ℕ) → others ≡ take (length cycles - (i + 1)) (drop (i + 1) cycles) → {b x : ℕ}
+          → x ≡ countFirst false (cycleOf cycles i - 1) others (length others) → b ≡ max most x → Peak cycles (i + 1) (c + 1) b
+      peak-ahead others same {b} {x} x-is b-is =
+          let before : x ≡ readBefore cycles i =
+          x-is
+          ∙ ap (λ o. countFirst false (cycleOf cycles i - 1) o (length o)) (same ∙ compared-read false cycles i refl)
+          ∙ sym (later-part cycles i (cycleOf cycles i - 1) l)
+          ∙ sum-cong (length cycles) (λ j. bit (ltb i j && leb (cycleOf cycles j) (cycleOf cycles i - 1)))
+          (λ j. bit (ltb i j && ltb (cycleOf cycles j) (cycleOf cycles i)))
+          (λ j k. ap (λ t. bit (ltb i j && t)) (up-to-the-one-before (cycleOf cycles j) (cycleOf cycles i) has-cycle)) in
+          record {
+            inside = omega arith;
+            from-one = omega arith;
+            under = λ j k. elim (ℕ-discrete j i) [ yes e ↦ rw e (omega arith) | no e ↦ omega (arith, v .under j (omega arith)) ];
+            met = λ k. (i, omega arith, omega arith);
+            so-far = omega (arith, v .so-far, b-is, before, most-next (readBefore cycles) i);
+          }
+
+    -- a frame that is not ahead has no more read before it than an earlier one, or none
+    stays : c < ceiling → most ≡ largest (tabulate (i + 1) (readBefore cycles))
+    stays h =
+        elim (ℕ-discrete ceiling 1) [
+          | yes e ↦ omega (arith, v .so-far, most-next (readBefore cycles) i, none-before cycles i (omega arith))
+          | no e ↦
+              (let r = v .met (omega (arith, v .from-one)) in
+              v .so-far ∙ most-stays (readBefore cycles) i (r .0) (r .1) (before-covered cycles i (r .0) (r .1) (omega (arith, r .2))))
+        ]
 
     pub peak-covered : c < ceiling → Peak cycles (i + 1) ceiling most
     peak-covered h =
-        let r = covering (v .heights) c-is h in
         record {
           inside = omega arith;
-          heights = ceiling-stays (v .heights) c-is h;
-          so-far = v .so-far ∙ most-stays (readBefore cycles) i (r .0) (r .1) (before-covered cycles i (r .0) (r .1) (r .2));
+          from-one = v .from-one;
+          under = λ j k. elim (ℕ-discrete j i) [ yes e ↦ rw e (omega arith) | no e ↦ v .under j (omega arith) ];
+          met = λ k. let r = v .met k in (r .0, omega (arith, r .1), r .2);
+          so-far = stays h;
         }
 
   pub peak-all : length cycles ≤ i → most ≡ mostOf readBefore cycles
   peak-all l = let e : i ≡ length cycles = omega (arith, v .inside) in rw (← e) (v .so-far)
 
 -- a save, from the last frame to the first: those from i on have room, and `floor` is their smallest cycle, `past` where there is none
-pub record SaveTurn (past m : ℕ) (cycles : List ℕ) (n i floor : ℕ) : Type 0 where
-  pub inside : i ≤ n
-  pub above : (j : ℕ) → i ≤ j → j < n → floor ≤ cycleOf cycles j
-  pub met : floor < past → (j : ℕ) × (i ≤ j) × (j < n) × (cycleOf cycles j ≡ floor)
-  pub each : (j : ℕ) → i ≤ j → j < n → oBacklog cycles j < m
+pub record SaveTurn (past m : ℕ) (cycles : List ℕ) (i floor : ℕ) : Type 0 where
+  pub inside : i ≤ length cycles
+  pub above : (j : ℕ) → i ≤ j → j < length cycles → floor ≤ cycleOf cycles j
+  pub met : floor < past → (j : ℕ) × (i ≤ j) × (j < length cycles) × (cycleOf cycles j ≡ floor)
+  pub each : (j : ℕ) → i ≤ j → j < length cycles → oBacklog cycles j < m
 
-pub save-first : (past m : ℕ) (cycles : List ℕ) (n : ℕ) → SaveTurn past m cycles n n past
-save-first past m cycles n =
+pub save-first : (past m : ℕ) (cycles : List ℕ) → SaveTurn past m cycles (length cycles) past
+save-first past m cycles =
     record {
       inside = omega arith;
       above = λ j k l. absurd (omega arith);
@@ -159,11 +185,11 @@ save-first past m cycles n =
       each = λ j k l. absurd (omega arith);
     }
 
-module _ {past m : ℕ} {cycles : List ℕ} {n i floor : ℕ} (v : SaveTurn past m cycles n i floor) where
+module _ {past m : ℕ} {cycles : List ℕ} {i floor : ℕ} (v : SaveTurn past m cycles i floor) where
   module _ (l : 0 < i) {c : ℕ} (c-is : c ≡ cycleOf cycles (i - 1)) where
     -- a frame behind all later ones, which is counted
     module _ (h : c < floor) where
-      pub save-behind : oBacklog cycles (i - 1) < m → SaveTurn past m cycles n (i - 1) c
+      pub save-behind : oBacklog cycles (i - 1) < m → SaveTurn past m cycles (i - 1) c
       save-behind g =
           record {
             inside = omega (arith, v .inside);
@@ -173,7 +199,7 @@ module _ {past m : ℕ} {cycles : List ℕ} {n i floor : ℕ} (v : SaveTurn past
           }
 
     -- a frame that is not, and has room because a later one has
-    pub save-covers : c < past → floor ≤ c → SaveTurn past m cycles n (i - 1) floor
+    pub save-covers : c < past → floor ≤ c → SaveTurn past m cycles (i - 1) floor
     save-covers b h =
         let r = v .met (omega arith) in
         record {
@@ -189,24 +215,24 @@ module _ {past m : ℕ} {cycles : List ℕ} {n i floor : ℕ} (v : SaveTurn past
               ];
         }
 
-    pub not-all-roomy : m ≤ oBacklog cycles (i - 1) → false ≡ leb n (roomyOf true m cycles n)
+    pub not-all-roomy : m ≤ oBacklog cycles (i - 1) → false ≡ leb (length cycles) (roomyOf true m cycles)
     not-all-roomy h =
         let full : leb m (oBacklog cycles (i - 1)) ≡ true = le-leb m (oBacklog cycles (i - 1)) h in
-        let before : roomyOf true m cycles n ≤ i - 1 =
-        elim (decLt (i - 1) (roomyOf true m cycles n)) [
-          | yes g ↦ absurd (false≢true (sym (before-least n (i - 1) (λ j. leb m (oBacklog cycles j)) g) ∙ full))
+        let before : roomyOf true m cycles ≤ i - 1 =
+        elim (decLt (i - 1) (roomyOf true m cycles)) [
+          | yes g ↦ absurd (false≢true (sym (before-least (length cycles) (i - 1) (λ j. leb m (oBacklog cycles j)) g) ∙ full))
           | no g ↦ omega arith
         ] in
-        sym (lt-leb n (roomyOf true m cycles n) (omega (arith, before, v .inside)))
+        sym (lt-leb (length cycles) (roomyOf true m cycles) (omega (arith, before, v .inside)))
 
-  pub all-roomy : i ≤ 0 → true ≡ leb n (roomyOf true m cycles n)
+  pub all-roomy : i ≤ 0 → true ≡ leb (length cycles) (roomyOf true m cycles)
   all-roomy l =
-      sym (le-leb n (roomyOf true m cycles n)
+      sym (le-leb (length cycles) (roomyOf true m cycles)
       (omega (
         arith,
-        least-none n (λ j. leb m (oBacklog cycles j)) (λ j g. lt-leb m (oBacklog cycles j) (v .each j (omega arith) g)),
+        least-none (length cycles) (λ j. leb m (oBacklog cycles j)) (λ j g. lt-leb m (oBacklog cycles j) (v .each j (omega arith) g)),
       )))
 
--- all of the first n frames have room
-pub all-have-room : (m : ℕ) (cycles : List ℕ) (n : ℕ) → leb n (roomyOf true m cycles n) ≡ true → n ≡ roomyOf true m cycles n
-all-have-room m cycles n e = omega (arith, leb-true n (roomyOf true m cycles n) e, least-le n (λ j. leb m (oBacklog cycles j)))
+-- all frames have room
+pub all-have-room : (m : ℕ) (cycles : List ℕ) → leb (length cycles) (roomyOf true m cycles) ≡ true → length cycles ≡ roomyOf true m cycles
+all-have-room m cycles e = omega (arith, leb-true (length cycles) (roomyOf true m cycles) e, least-le (length cycles) (λ j. leb m (oBacklog cycles j)))

@@ -8,11 +8,11 @@ use lib.ListN.{length}
 use Rattle.schedule.specs.Closed.{readBefore}
 use Rattle.pool_counts.specs.Pools.{roomyOf, mostOf, peakOf}
 
-module _ (save : Bool) (m : ℕ) (cycles : List ℕ) (n : ℕ) {r : ℕ} where
-  pub of-save : save ≡ true → r ≡ roomyOf true m cycles n → (r ≡ roomyOf save m cycles n) × (r ≡ length cycles → 0 ≡ peakOf save cycles)
+module _ (save : Bool) (m : ℕ) (cycles : List ℕ) {r : ℕ} where
+  pub of-save : save ≡ true → r ≡ roomyOf true m cycles → (r ≡ roomyOf save m cycles) × (r ≡ length cycles → 0 ≡ peakOf save cycles)
   of-save s r-is = rw s (r-is, λ e. refl)
 
   pub of-read :
-      {before : ℕ} → save ≡ false → r ≡ roomyOf false m cycles n → (r ≡ length cycles → before ≡ mostOf readBefore cycles)
-      → (r ≡ roomyOf save m cycles n) × (r ≡ length cycles → before ≡ peakOf save cycles)
+      {before : ℕ} → save ≡ false → r ≡ roomyOf false m cycles → (r ≡ length cycles → before ≡ mostOf readBefore cycles)
+      → (r ≡ roomyOf save m cycles) × (r ≡ length cycles → before ≡ peakOf save cycles)
   of-read s r-is before-is = rw s (r-is, before-is)

@@ -9,9 +9,9 @@ use Rattle.counting.specs.Count.{tabulate, largest, least}
 use Rattle.schedule.specs.Closed.{readBefore}
 use Rattle.pool_counts.specs.Backlog.{backlogOf}
 
--- of the first n frames, the lowest position whose pool is overfull; n where none is
-abbrev pub roomyOf : Bool → ℕ → List ℕ → ℕ → ℕ
-roomyOf save m cycles n = least n (λ i. leb m (backlogOf save cycles i))
+-- the lowest position whose pool is overfull; as many as there are frames where none is
+abbrev pub roomyOf : Bool → ℕ → List ℕ → ℕ
+roomyOf save m cycles = least (length cycles) (λ i. leb m (backlogOf save cycles i))
 
 -- a number after all cycles that a plan can have: "Foreign cycles reach 65,535."
 abbrev pub pastAll : ℕ

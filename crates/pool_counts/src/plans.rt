@@ -2,13 +2,11 @@
 // the lowest overfull frame of a save.
 ghost use mathlib.Core.Path.{_≡_};
 ghost use mathlib.Core.Bool.{true, false};
-ghost use Prim.Native.Nat.{ℕ, _≤_, _<_};
+ghost use Prim.Native.Nat.{_≤_, _<_};
 ghost use lib.Dec.{leb};
 ghost use lib.ListN.{length};
-ghost use Rattle.schedule.specs.Schedule.{cycleOf};
 ghost use Rattle.schedule.specs.Closed.{readBefore};
 ghost use Rattle.header.specs.Limits.{maxFrames};
-ghost use Rattle.pool_counts.specs.Asked.{Asked};
 ghost use Rattle.pool_counts.specs.Pools.{roomyOf, pastAll, mostOf, peakOf};
 use crate::Room;
 use crate::backlog;
@@ -24,13 +22,14 @@ fn place(cycle: u16) -> usize
     cycle as usize
 }
 
-// A read: how many of the first n frames have room, up to the first that has not. A frame that is not ahead of all earlier ones has no larger
-// count than one of these, and is not counted.
+// A read: how many frames have room, up to the first that has not. A frame that is not ahead of all earlier ones has no larger count than one of
+// these, and is not counted.
 //   ceiling   one more than the largest cycle so far, 0 before the first frame
-fn roomy_read(plan: &[u16], m: u16, n: usize) -> usize
-    requires { ⌜ (n ≤ length (now plan)) × (length (now plan) ≤ maxFrames) ⌝ }
-    ensures { λ r. ⌜ r ≡ roomyOf false m (now (plan .entry)) n ⌝ }
+fn roomy_read(plan: &[u16], m: u16) -> usize
+    requires { ⌜ length (now plan) ≤ maxFrames ⌝ }
+    ensures { λ r. ⌜ r ≡ roomyOf false m (now (plan .entry)) ⌝ }
 {
+    let n = plan.len();
     let mut ceiling: usize = 0;
     let mut i: usize = 0;
     while i < n {
@@ -48,15 +47,14 @@ fn roomy_read(plan: &[u16], m: u16, n: usize) -> usize
     n
 }
 
-// A save: whether all of the first n frames have room. A frame that is not behind all later ones has no larger count than one of these, and is
-// not counted.
+// A save: whether all frames have room. A frame that is not behind all later ones has no larger count than one of these, and is not counted.
 //   floor   the smallest cycle of the later frames, past all behind the last
-fn all_roomy_save(plan: &[u16], m: u16, n: usize) -> bool
-    requires { ⌜ (n ≤ length (now plan)) × (length (now plan) ≤ maxFrames) ⌝ }
-    ensures { λ r. ⌜ r ≡ leb n (roomyOf true m (now (plan .entry)) n) ⌝ }
+fn all_roomy_save(plan: &[u16], m: u16) -> bool
+    requires { ⌜ length (now plan) ≤ maxFrames ⌝ }
+    ensures { λ r. ⌜ r ≡ leb (length (now (plan .entry))) (roomyOf true m (now (plan .entry))) ⌝ }
 {
     let mut floor: usize = PAST_ALL;
-    let mut i: usize = n;
+    let mut i: usize = plan.len();
     while 0 < i {
         i -= 1;
         let c = place(plan[i]);
@@ -71,12 +69,13 @@ fn all_roomy_save(plan: &[u16], m: u16, n: usize) -> bool
     true
 }
 
-// A save: how many of the first n frames have room, up to the first that has not. Each is counted, unless all have room.
-fn roomy_save(plan: &[u16], m: u16, n: usize) -> usize
-    requires { ⌜ (n ≤ length (now plan)) × (length (now plan) ≤ maxFrames) ⌝ }
-    ensures { λ r. ⌜ r ≡ roomyOf true m (now (plan .entry)) n ⌝ }
+// A save: how many frames have room, up to the first that has not. Each is counted, unless all have room.
+fn roomy_save(plan: &[u16], m: u16) -> usize
+    requires { ⌜ length (now plan) ≤ maxFrames ⌝ }
+    ensures { λ r. ⌜ r ≡ roomyOf true m (now (plan .entry)) ⌝ }
 {
-    if all_roomy_save(plan, m, n) {
+    let n = plan.len();
+    if all_roomy_save(plan, m) {
         return n;
     }
     let mut i: usize = 0;
@@ -90,13 +89,14 @@ fn roomy_save(plan: &[u16], m: u16, n: usize) -> usize
     n
 }
 
-// The most frames that are read before an earlier one. Only frames ahead of all earlier ones are counted.
+// The most frames that are read before an earlier one. Only frames ahead of all earlier ones are counted; before cycle 0 there is none.
+//   ceiling   one more than the largest cycle so far, 1 before the first frame
 fn peak(plan: &[u16]) -> u16
-    requires { ⌜ (length (now plan) ≤ maxFrames) × ((i : ℕ) → i < length (now plan) → 1 ≤ cycleOf (now plan) i) ⌝ }
+    requires { ⌜ length (now plan) ≤ maxFrames ⌝ }
     ensures { λ r. ⌜ r ≡ mostOf readBefore (now (plan .entry)) ⌝ }
 {
     let n = plan.len();
-    let mut ceiling: usize = 0;
+    let mut ceiling: usize = 1;
     let mut most: u16 = 0;
     let mut i: usize = 0;
     while i < n {
@@ -114,19 +114,19 @@ fn peak(plan: &[u16]) -> u16
     most
 }
 
-// The pools of the first n frames, and the peak where all frames have room.
-pub fn pools(save: bool, plan: &[u16], m: u16, n: usize) -> Room
-    requires { ⌜ Asked (now plan) n ⌝ }
-    ensures roomy { λ r. ⌜ r .roomy ≡ roomyOf save m (now (plan .entry)) n ⌝ }
+// The pools of a plan, and the peak where all frames have room.
+pub fn pools(save: bool, plan: &[u16], m: u16) -> Room
+    requires { ⌜ length (now plan) ≤ maxFrames ⌝ }
+    ensures roomy { λ r. ⌜ r .roomy ≡ roomyOf save m (now (plan .entry)) ⌝ }
     ensures peak { λ r. ⌜ (r .roomy ≡ length (now (plan .entry)) → r .before ≡ peakOf save (now (plan .entry))) ⌝ }
 {
     if save {
         return Room {
-            roomy: roomy_save(plan, m, n),
+            roomy: roomy_save(plan, m),
             before: 0,
         };
     }
-    let found = roomy_read(plan, m, n);
+    let found = roomy_read(plan, m);
     if found < plan.len() {
         return Room {
             roomy: found,

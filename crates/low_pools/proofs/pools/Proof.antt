@@ -2,7 +2,6 @@
 -- Assumes nothing.
 use borrow.Author.Needs.{needs}
 use mathlib.Core.Path.{ap, _∙_}
-use lib.ListN.{length}
 use Rattle.counting.specs.Count.{tabulate, largest}
 use Rattle.schedule.specs.Closed.{readBefore}
 use Rattle.pool_counts.proofs.Whole.{of-save, of-read}
@@ -24,7 +23,7 @@ returns c =
     let save = c .before .before .before .if1 .taken in
     let roomy-is = c .before .roomy .ensures in
     let plan = c .before .before .before .before .before .args .plan .now in
-    of-save (args .save) (args .m) plan (length plan) save roomy-is
+    of-save (args .save) (args .m) plan save roomy-is
 
 slice-aggregate-fill : tie.Need-slice-aggregate-fill
 slice-aggregate-fill c = search needs
@@ -44,7 +43,7 @@ returns-2 c =
     let read = c .before .before .before .before .before .if1 .left in
     let plan = c .before .before .before .before .before .before .before .args .plan .now in
     let found = c .roomy2 .ensures in
-    of-read (args .save) (args .m) plan (length plan) read (found .0)
+    of-read (args .save) (args .m) plan read (found .0)
     (λ all. found .1 ∙ ap (λ n. largest (tabulate n (readBefore plan))) all)
 
 pub pools-spec : {M : Type 1} → statement M

@@ -21,7 +21,7 @@ slice-aggregate-enter c = search needs
 enter-requires : tie.Need-enter-requires Inv-loop μ-loop
 enter-requires c κs =
     let pre = c .before .before .before .pre in
-    (pre .0, pre .1, pre .2, sets-first _ _)
+    (pre .0, pre .1, pre .2 .clear, sets-first _ _)
 
 loop-holds : tie.Need-loop-holds Inv-loop μ-loop
 loop-holds c = search needs
@@ -41,25 +41,25 @@ cycle-index-requires c κs = search needs
 mul-set : tie.Need-mul-set Inv-loop μ-loop
 mul-set c =
     let pre = c .before .before .before .before .before .before .before .before .before .before .pre in
-    omega (arith, cycle-low (pre .0) (pre .1) (pre .4) (c .before .before .before .loop-test .taken) (c .cycle-index .ensures))
+    omega (arith, cycle-low (pre .0) (pre .1) (pre .2 .inside) (c .before .before .before .loop-test .taken) (c .cycle-index .ensures))
 
 array-read-set : tie.Need-array-read-set Inv-loop μ-loop
 array-read-set c =
     let pre = c .before .before .before .before .before .before .before .before .before .before .pre in
-    omega (arith, cycle-low (pre .0) (pre .1) (pre .4) (c .before .before .before .loop-test .taken) (c .cycle-index .ensures))
+    omega (arith, cycle-low (pre .0) (pre .1) (pre .2 .inside) (c .before .before .before .loop-test .taken) (c .cycle-index .ensures))
 
 returns : tie.Need-returns Inv-loop μ-loop
 returns c =
     let inv = c .before .before .before .before .before .loop .inv in
     let front = c .before .before .before .before .loop-test .taken in
     let pre = c .before .before .before .before .before .before .before .before .before .before .before .pre in
-    no-cycle-ends inv front (pre .4) (c .if1 .taken)
+    no-cycle-ends inv front (pre .2 .inside) (c .if1 .taken)
 
 has-requires : tie.Need-has-requires Inv-loop μ-loop
 has-requires c κs =
     let pre = c .before .before .before .before .before .before .before .before .before .before .before .pre in
     let front = c .before .before .before .before .loop-test .taken in
-    pre .0 .each-card _ (omega (arith, front, pre .4))
+    pre .0 .each-card _ (omega (arith, front, pre .2 .inside))
 
 returns-2 : tie.Need-returns-2 Inv-loop μ-loop
 returns-2 c =
@@ -69,29 +69,29 @@ returns-2 c =
     let pre = c .before .before .before .before .before .before .before .before .before .before .before .before .before .pre in
     let front = c .before .before .before .before .before .before .loop-test .taken in
     let place-is = c .before .before .before .cycle-index .ensures in
-    let low = cycle-low (pre .0) (pre .1) (pre .4) front place-is in
+    let low = cycle-low (pre .0) (pre .1) (pre .2 .inside) front place-is in
     let member = sym has-is ∙ c .if2 .taken in
-    member-ends inv front (pre .4) place-is low has-cycle member
+    member-ends inv front (pre .2 .inside) place-is low has-cycle member
 
 with-requires : tie.Need-with-requires Inv-loop μ-loop
 with-requires c κs =
     let pre = c .before .before .before .before .before .before .before .before .before .before .before .before .before .pre in
     let front = c .before .before .before .before .before .before .loop-test .taken in
-    (pre .0 .each-card _ (omega (arith, front, pre .4)), no-member _ _ (sym (c .before .has .ensures) ∙ c .if2 .left))
+    (pre .0 .each-card _ (omega (arith, front, pre .2 .inside)), no-member _ _ (sym (c .before .has .ensures) ∙ c .if2 .left))
 
 mul-seen : tie.Need-mul-seen Inv-loop μ-loop
 mul-seen c =
     let front = c .before .before .before .before .before .before .before .loop-test .taken in
     let place-is = c .before .before .before .before .cycle-index .ensures in
     let pre = c .before .before .before .before .before .before .before .before .before .before .before .before .before .before .pre in
-    omega (arith, cycle-low (pre .0) (pre .1) (pre .4) front place-is)
+    omega (arith, cycle-low (pre .0) (pre .1) (pre .2 .inside) front place-is)
 
 array-write-seen : tie.Need-array-write-seen Inv-loop μ-loop
 array-write-seen c =
     let front = c .before .before .before .before .before .before .before .loop-test .taken in
     let place-is = c .before .before .before .before .cycle-index .ensures in
     let pre = c .before .before .before .before .before .before .before .before .before .before .before .before .before .before .pre in
-    omega (arith, cycle-low (pre .0) (pre .1) (pre .4) front place-is)
+    omega (arith, cycle-low (pre .0) (pre .1) (pre .2 .inside) front place-is)
 
 add-i : tie.Need-add-i Inv-loop μ-loop
 add-i c = search needs
@@ -108,9 +108,9 @@ loop-again c =
     let pre = c .before .before .before .before .before .before .before .before .before .before .before .before .before .before .pre in
     let front = c .before .before .before .before .before .before .before .loop-test .taken in
     let place-is = c .before .before .before .before .cycle-index .ensures in
-    let low = cycle-low (pre .0) (pre .1) (pre .4) front place-is in
+    let low = cycle-low (pre .0) (pre .1) (pre .2 .inside) front place-is in
     let none = no-member _ _ (sym has-is ∙ no-card) in
-    seen-next inv front (pre .4) place-is low has-cycle none (c .with .ensures)
+    seen-next inv front (pre .2 .inside) place-is low has-cycle none (c .with .ensures)
 
 returns-3 : tie.Need-returns-3 Inv-loop μ-loop
 returns-3 c = clear-all (c .before .loop .inv .clear) (c .loop-test .left)

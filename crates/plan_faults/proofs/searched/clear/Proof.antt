@@ -10,10 +10,10 @@ use Rattle.plan_faults.proofs.searched.clear.Statement.{statement}
 use Rattle.plan_faults.proofs.searched.clear.Tie as tie
 
 abbrev Inv-loop : tie.InvT-loop
-Inv-loop cards plan latest₀ n i₀ latest i = Stopped cards plan latest i
+Inv-loop cards plan n latest₀ i₀ latest i = Stopped cards plan latest i
 
 abbrev μ-loop : tie.MeasureT-loop
-μ-loop cards plan latest₀ n i₀ latest i = n - i
+μ-loop cards plan n latest₀ i₀ latest i = n - i
 
 slice-aggregate-rising : tie.Need-slice-aggregate-rising Inv-loop μ-loop
 slice-aggregate-rising c = search needs
@@ -31,7 +31,11 @@ shared-slice-read-if1 : tie.Need-shared-slice-read-if1 Inv-loop μ-loop
 shared-slice-read-if1 c = search needs
 
 returns : tie.Need-returns Inv-loop μ-loop
-returns c = no-cycle-stops (c .before .before .before .loop .inv) (c .before .before .loop-test .taken) (c .if1 .taken)
+returns c =
+    let inv = c .before .before .before .loop .inv in
+    let pre = c .before .before .before .before .before .before .before .before .before .pre in
+    let inside = c .before .before .loop-test .taken in
+    no-cycle-stops inv (pre .1) inside (c .if1 .taken)
 
 shared-requires : tie.Need-shared-requires Inv-loop μ-loop
 shared-requires c κs = search needs
@@ -41,8 +45,9 @@ returns-2 c =
     let inv = c .before .before .before .before .before .loop .inv in
     let has-cycle = c .before .before .if1 .left in
     let shared-is = c .before .shared .ensures in
+    let few = c .before .before .before .before .before .before .before .before .before .before .before .pre .1 in
     let inside = c .before .before .before .before .loop-test .taken in
-    shared-stops inv inside has-cycle (sym shared-is ∙ c .if2 .taken)
+    shared-stops inv few inside has-cycle (sym shared-is ∙ c .if2 .taken)
 
 add-rising : tie.Need-add-rising Inv-loop μ-loop
 add-rising c = search needs
@@ -53,23 +58,19 @@ slice-aggregate-rising-2 c = search needs
 rising-requires-2 : tie.Need-rising-requires-2 Inv-loop μ-loop
 rising-requires-2 c κs =
     let pre = c .before .before .before .before .before .before .before .before .before .before .before .before .pre in
-    let inv = c .before .before .before .before .before .before .loop .inv in
     let inside = c .before .before .before .before .before .loop-test .taken in
-    (pre, omega (arith, inside), latest-on inv inside)
+    (pre .0, omega (arith, inside, pre .1), latest-on (c .before .before .before .before .before .before .loop .inv) (pre .1) inside)
 
 loop-less : tie.Need-loop-less Inv-loop μ-loop
 loop-less c = search needs
 
 loop-again : tie.Need-loop-again Inv-loop μ-loop
 loop-again c =
-    let shared-is = c .before .before .before .before .shared .ensures in
-    let alone = c .before .before .before .if2 .left in
     let inv = c .before .before .before .before .before .before .before .before .loop .inv in
-    let has-cycle = c .before .before .before .before .before .if1 .left in
-    let risen = c .before .rising2 .ensures in
+    let few = c .before .before .before .before .before .before .before .before .before .before .before .before .before .before .pre .1 in
     let inside = c .before .before .before .before .before .before .before .loop-test .taken in
-    let alone = sym shared-is ∙ alone in
-    stopped (clear-on inv inside has-cycle alone) risen
+    let alone = sym (c .before .before .before .before .shared .ensures) ∙ c .before .before .before .if2 .left in
+    stopped (clear-on inv few inside (c .before .before .before .before .before .if1 .left) alone) (c .before .rising2 .ensures)
 
 returns-3 : tie.Need-returns-3 Inv-loop μ-loop
 returns-3 c = clear-all (c .before .loop .inv .clear) (c .loop-test .left)

@@ -8,13 +8,13 @@ use Rattle.pool_counts.proofs.plans.all_roomy_save.Statement.{statement
 use Rattle.pool_counts.proofs.plans.all_roomy_save.Tie as tie
 
 abbrev Inv-loop : tie.InvT-loop
-Inv-loop plan m n floor₀ i₀ floor i = SaveTurn pastAll m plan n i floor
+Inv-loop plan m floor₀ i₀ floor i = SaveTurn pastAll m plan i floor
 
 abbrev μ-loop : tie.MeasureT-loop
-μ-loop plan m n floor₀ i₀ floor i = i
+μ-loop plan m floor₀ i₀ floor i = i
 
 loop-holds : tie.Need-loop-holds Inv-loop μ-loop
-loop-holds c = save-first _ _ _ _
+loop-holds c = save-first _ _ _
 
 sub-i : tie.Need-sub-i Inv-loop μ-loop
 sub-i c = search needs

@@ -32,7 +32,7 @@ add-ceiling : tie.Need-add-ceiling Inv-loop μ-loop
 add-ceiling c = search needs
 
 sub-t13 : tie.Need-sub-t13 Inv-loop μ-loop
-sub-t13 c = c .before .before .before .before .before .before .pre .1 _ (c .before .before .before .loop-test .taken)
+sub-t13 c = search needs
 
 mul-count-all : tie.Need-mul-count-all Inv-loop μ-loop
 mul-count-all c = search needs
@@ -60,10 +60,9 @@ loop-again c =
     let inv = c .before .before .before .before .before .before .before .loop .inv in
     let place-is = c .before .before .before .before .place .ensures in
     let ahead = c .before .before .before .if1 .taken in
-    let from-one = c .before .before .before .before .before .before .before .before .before .pre .1 in
     let inside = c .before .before .before .before .before .before .loop-test .taken in
     let count-is = c .before .count-all .ensures in
-    peak-ahead inv inside (place-is .0) ahead (from-one _ inside) _ refl count-is (c .larger .ensures)
+    peak-ahead inv inside (place-is .0) ahead _ refl count-is (c .larger .ensures)
 
 loop-less-2 : tie.Need-loop-less-2 Inv-loop μ-loop
 loop-less-2 c = search needs

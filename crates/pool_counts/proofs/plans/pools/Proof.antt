@@ -1,9 +1,7 @@
 -- `pool_counts::plans::pools` meets its contract.
 -- Assumes nothing.
 use borrow.Author.Needs.{needs}
-use mathlib.Core.Bool.{false}
 use native.Mathlib.Omega.{arith}
-use Rattle.pool_counts.proofs.Frames.{all-from-one}
 use Rattle.pool_counts.proofs.Whole.{of-save, of-read}
 use Rattle.pool_counts.proofs.plans.pools.Statement.{statement}
 use Rattle.pool_counts.proofs.plans.pools.Tie as tie
@@ -14,31 +12,27 @@ roomy-save-requires c κs = search needs
 returns : tie.Need-returns
 returns c =
     let args = c .before .before .before .args in
-    of-save (args .save) (args .m) (args .plan .now) (args .n) (c .before .if1 .taken) (c .roomy-save .ensures)
+    of-save (args .save) (args .m) (args .plan .now) (c .before .if1 .taken) (c .roomy-save .ensures)
 
 roomy-read-requires : tie.Need-roomy-read-requires
 roomy-read-requires c κs = search needs
 
 returns-2 : tie.Need-returns-2
 returns-2 c =
-    let read = c .before .before .if1 .left in
-    let roomy-is = c .before .roomy-read .ensures in
     let args = c .before .before .before .before .args in
+    let roomy-is = c .before .roomy-read .ensures in
     let not-all = c .if2 .taken in
-    of-read (args .save) (args .m) (args .plan .now) (args .n) read roomy-is (λ all. absurd (omega (arith, not-all, all)))
+    of-read (args .save) (args .m) (args .plan .now) (c .before .before .if1 .left) roomy-is (λ all. absurd (omega (arith, not-all, all)))
 
 peak-requires : tie.Need-peak-requires
-peak-requires c κs =
-    let args = c .before .before .before .before .args in
-    let asked = c .before .before .before .before .pre in
-    (asked .few, all-from-one false (args .m) (args .plan .now) asked (c .before .roomy-read .ensures) (c .if2 .left))
+peak-requires c κs = search needs
 
 returns-3 : tie.Need-returns-3
 returns-3 c =
     let read = c .before .before .before .if1 .left in
     let roomy-is = c .before .before .roomy-read .ensures in
     let args = c .before .before .before .before .before .args in
-    of-read (args .save) (args .m) (args .plan .now) (args .n) read roomy-is (λ all. c .peak .ensures)
+    of-read (args .save) (args .m) (args .plan .now) read roomy-is (λ all. c .peak .ensures)
 
 pub pools-spec : {M : Type 1} → statement M
 pools-spec =

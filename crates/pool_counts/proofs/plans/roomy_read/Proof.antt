@@ -8,13 +8,13 @@ use Rattle.pool_counts.proofs.plans.roomy_read.Statement.{statement}
 use Rattle.pool_counts.proofs.plans.roomy_read.Tie as tie
 
 abbrev Inv-loop : tie.InvT-loop
-Inv-loop plan m n ceiling₀ i₀ ceiling i = ReadTurn m plan n i ceiling
+Inv-loop plan m n ceiling₀ i₀ ceiling i = ReadTurn m plan i ceiling
 
 abbrev μ-loop : tie.MeasureT-loop
 μ-loop plan m n ceiling₀ i₀ ceiling i = n - i
 
 loop-holds : tie.Need-loop-holds Inv-loop μ-loop
-loop-holds c = read-first _ _ _
+loop-holds c = read-first _ _
 
 mul-place : tie.Need-mul-place Inv-loop μ-loop
 mul-place c = search needs
@@ -50,8 +50,8 @@ loop-again c =
     let place-is = c .before .before .before .before .place .ensures in
     let ahead = c .before .before .before .if1 .taken in
     let inside = c .before .before .before .before .before .before .loop-test .taken in
-    let count-is = c .before .before .backlog .ensures .0 in
-    read-ahead inv inside (place-is .0) ahead (omega (arith, count-is, c .if2 .left))
+    let counted = c .before .before .backlog .ensures .0 in
+    read-ahead inv inside (place-is .0) ahead (omega (arith, counted, c .if2 .left))
 
 loop-less-2 : tie.Need-loop-less-2 Inv-loop μ-loop
 loop-less-2 c = search needs

@@ -10,7 +10,7 @@ use Rattle.pool_counts.proofs.plans.roomy_save.Statement.{statement}
 use Rattle.pool_counts.proofs.plans.roomy_save.Tie as tie
 
 abbrev Inv-loop : tie.InvT-loop
-Inv-loop plan m n i₀ i = Roomy true m plan n i
+Inv-loop plan m n i₀ i = Roomy true m plan i
 
 abbrev μ-loop : tie.MeasureT-loop
 μ-loop plan m n i₀ i = n - i
@@ -21,10 +21,10 @@ all-roomy-save-requires c κs = search needs
 returns : tie.Need-returns Inv-loop μ-loop
 returns c =
     let args = c .before .before .before .args in
-    all-have-room (args .m) (args .plan .now) (args .n) (sym (c .before .all-roomy-save .ensures) ∙ c .if1 .taken)
+    all-have-room (args .m) (args .plan .now) (sym (c .before .all-roomy-save .ensures) ∙ c .if1 .taken)
 
 loop-holds : tie.Need-loop-holds Inv-loop μ-loop
-loop-holds c = roomy-first _ _ _ _
+loop-holds c = roomy-first _ _ _
 
 backlog-requires : tie.Need-backlog-requires Inv-loop μ-loop
 backlog-requires c κs = search needs
