@@ -19,7 +19,7 @@ use Rattle.schedule.proofs.Exact.{valid-correct, otherwise}
 use Rattle.header.specs.Limits.{maxFrames}
 use Rattle.pool_counts.specs.Backlog.{backlogOf}
 use Rattle.pool_counts.specs.Pools.{peakOf}
-use Rattle.low_pools.specs.Table.{Low}
+use Rattle.pool_table.specs.Table.{Low}
 use Rattle.plan_faults.specs.Faults.{Checking, Decided, faultAt, foundIn, firstFault}
 use Rattle.plan_faults.specs.Searches.{LowCycles}
 use Rattle.plan_faults.specs.declared.Found.{Found}

@@ -5,7 +5,7 @@ ghost use Prim.Native.Nat.{_≤_};
 ghost use lib.ListN.{length};
 ghost use Rattle.header.specs.Limits.{maxFrames};
 ghost use Rattle.pool_counts.specs.Pools.{roomyOf, peakOf};
-ghost use Rattle.low_pools.specs.Table.{Low};
+ghost use Rattle.pool_table.specs.Table.{Low};
 ghost use Rattle.plan_faults.specs.Faults.{Checking};
 ghost use Rattle.checker.specs.Check.{answerOf, verdictOn};
 ghost use Rattle.checker.specs.Completed.{completed};
@@ -34,7 +34,7 @@ fn pools(save: bool, low: bool, plan: &[u16], top: Cycle, m: u16) -> Room
     ensures peak { λ r. ⌜ (r .roomy ≡ length (now (plan .entry)) → r .before ≡ peakOf save (now (plan .entry))) ⌝ }
 {
     if low {
-        return low_pools::pools(save, plan, top, m);
+        return pool_table::pools(save, plan, top, m);
     }
     pool_counts::plans::pools(save, plan, m)
 }

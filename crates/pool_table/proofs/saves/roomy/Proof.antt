@@ -1,13 +1,13 @@
--- `low_pools::saves::roomy` meets its contract.
+-- `pool_table::saves::roomy` meets its contract.
 -- Assumes nothing.
 use borrow.Author.Needs.{needs}
 use Prim.Native.Nat.{suc, _+_, _-_}
 use native.Mathlib.Omega.{arith}
 use Rattle.header.specs.Limits.{maxFrames}
-use Rattle.low_pools.proofs.SaveTurns.{SaveTurn, save-first, full-below, due-le, save-moves}
-use Rattle.low_pools.proofs.SaveTurns.{cycle-low, save-ends, due-small, cycle-place, save-next, save-all}
-use Rattle.low_pools.proofs.saves.roomy.Statement.{statement}
-use Rattle.low_pools.proofs.saves.roomy.Tie as tie
+use Rattle.pool_table.proofs.SaveTurns.{SaveTurn, save-first, full-below, due-le, save-moves}
+use Rattle.pool_table.proofs.SaveTurns.{cycle-low, save-ends, due-small, cycle-place, save-next, save-all}
+use Rattle.pool_table.proofs.saves.roomy.Statement.{statement}
+use Rattle.pool_table.proofs.saves.roomy.Tie as tie
 
 abbrev Inv-loop : tie.InvT-loop
 Inv-loop plan m due₀ n full₀ above₀ i₀ due full above i = SaveTurn m plan due i full above

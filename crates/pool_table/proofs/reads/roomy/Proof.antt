@@ -1,11 +1,11 @@
--- `low_pools::reads::roomy` meets its contract.
+-- `pool_table::reads::roomy` meets its contract.
 -- Assumes nothing.
 use borrow.Author.Needs.{needs}
 use Prim.Native.Nat.{_-_}
 use native.Mathlib.Omega.{arith}
-use Rattle.low_pools.proofs.ReadTurns.{TableTurn, table-first, entry-after, entry-at, place-inside, table-ends, table-ahead, table-covered, table-all}
-use Rattle.low_pools.proofs.reads.roomy.Statement.{statement}
-use Rattle.low_pools.proofs.reads.roomy.Tie as tie
+use Rattle.pool_table.proofs.ReadTurns.{TableTurn, table-first, entry-after, entry-at, place-inside, table-ends, table-ahead, table-covered, table-all}
+use Rattle.pool_table.proofs.reads.roomy.Statement.{statement}
+use Rattle.pool_table.proofs.reads.roomy.Tie as tie
 
 abbrev Inv-loop : tie.InvT-loop
 Inv-loop plan table m n ceiling₀ before₀ i₀ ceiling before i = TableTurn m plan i ceiling before

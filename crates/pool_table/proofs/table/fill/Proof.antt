@@ -1,9 +1,9 @@
--- `low_pools::table::fill` meets its contract.
+-- `pool_table::table::fill` meets its contract.
 -- Assumes nothing.
-use Rattle.low_pools.proofs.Adding.{within-limit}
+use Rattle.pool_table.proofs.Adding.{within-limit}
 use borrow.Author.Needs.{needs}
-use Rattle.low_pools.proofs.table.fill.Statement.{statement}
-use Rattle.low_pools.proofs.table.fill.Tie as tie
+use Rattle.pool_table.proofs.table.fill.Statement.{statement}
+use Rattle.pool_table.proofs.table.fill.Tie as tie
 
 tally-requires : tie.Need-tally-requires
 tally-requires c κs = (c .before .before .before .pre .0, within-limit _ _ (c .before .before .before .pre .1))

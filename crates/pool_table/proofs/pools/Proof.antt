@@ -1,13 +1,13 @@
--- `low_pools::pools` meets its contract.
+-- `pool_table::pools` meets its contract.
 -- Assumes nothing.
 use borrow.Author.Needs.{needs}
 use mathlib.Core.Path.{ap, _∙_}
 use Rattle.counting.specs.Count.{tabulate, largest}
 use Rattle.schedule.specs.Closed.{readBefore}
 use Rattle.pool_counts.proofs.Whole.{of-save, of-read}
-use Rattle.low_pools.proofs.Adding.{zeroed, within-limit}
-use Rattle.low_pools.proofs.pools.Statement.{statement}
-use Rattle.low_pools.proofs.pools.Tie as tie
+use Rattle.pool_table.proofs.Adding.{zeroed, within-limit}
+use Rattle.pool_table.proofs.pools.Statement.{statement}
+use Rattle.pool_table.proofs.pools.Tie as tie
 
 slice-aggregate-roomy : tie.Need-slice-aggregate-roomy
 slice-aggregate-roomy c = search needs

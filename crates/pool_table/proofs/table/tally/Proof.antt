@@ -1,12 +1,12 @@
--- `low_pools::table::tally` meets its contract.
+-- `pool_table::table::tally` meets its contract.
 -- Assumes nothing.
 use borrow.Author.Needs.{needs}
 use Prim.Native.Nat.{_-_}
 use native.Mathlib.Omega.{arith}
 use mathlib.Core.Path.{sym, _∙_}
-use Rattle.low_pools.proofs.Adding.{Tallying, tally-first, tally-place, tally-small, tally-next, tallied}
-use Rattle.low_pools.proofs.table.tally.Statement.{statement}
-use Rattle.low_pools.proofs.table.tally.Tie as tie
+use Rattle.pool_table.proofs.Adding.{Tallying, tally-first, tally-place, tally-small, tally-next, tallied}
+use Rattle.pool_table.proofs.table.tally.Statement.{statement}
+use Rattle.pool_table.proofs.table.tally.Tie as tie
 
 abbrev Inv-loop : tie.InvT-loop
 Inv-loop plan table₀ n i₀ table i = Tallying plan table i

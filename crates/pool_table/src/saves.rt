@@ -4,7 +4,7 @@ ghost use mathlib.Core.Bool.{true};
 ghost use Prim.Native.Nat.{_≤_};
 ghost use Rattle.header.specs.Limits.{maxFrames};
 ghost use Rattle.pool_counts.specs.Pools.{roomyOf};
-ghost use Rattle.low_pools.specs.Table.{Zeroed, Low};
+ghost use Rattle.pool_table.specs.Table.{Zeroed, Low};
 use counting::Cycle;
 
 // Goes through the frames, up to the first that is overfull. The table is lent with zeros in it.

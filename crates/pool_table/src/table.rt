@@ -1,6 +1,6 @@
 // The table of how many frames of a plan come before each cycle.
 ghost use Rattle.header.specs.Limits.{maxFrames};
-ghost use Rattle.low_pools.specs.Table.{Zeroed, Low, Tallied, Table};
+ghost use Rattle.pool_table.specs.Table.{Zeroed, Low, Tallied, Table};
 use counting::Cycle;
 
 // Counts the frames of each cycle, one place further on.

@@ -1,12 +1,12 @@
--- `low_pools::table::add_up` meets its contract.
+-- `pool_table::table::add_up` meets its contract.
 -- Assumes nothing.
 use mathlib.Core.Path.{sym, _∙_}
 use borrow.Author.Needs.{needs}
 use Prim.Native.Nat.{_-_, _≤_}
 use native.Mathlib.Omega.{arith}
-use Rattle.low_pools.proofs.Adding.{Adding, add-first, add-small, add-next, added}
-use Rattle.low_pools.proofs.table.add_up.Statement.{statement}
-use Rattle.low_pools.proofs.table.add_up.Tie as tie
+use Rattle.pool_table.proofs.Adding.{Adding, add-first, add-small, add-next, added}
+use Rattle.pool_table.proofs.table.add_up.Statement.{statement}
+use Rattle.pool_table.proofs.table.add_up.Tie as tie
 
 abbrev Inv-loop : tie.InvT-loop
 Inv-loop plan table₀ n sum₀ c₀ table sum c = (c ≤ n) × Adding plan table c sum

@@ -14,8 +14,8 @@ use Rattle.pool_counts.specs.Pools.{roomyOf}
 use Rattle.pool_counts.proofs.Covered.{before-covered}
 use Rattle.pool_counts.proofs.Ceilings.{ahead, covering}
 use Rattle.pool_counts.proofs.Frames.{roomy-ends, roomy-all, ReadTurn, read-first, read-ahead, read-covered}
-use Rattle.low_pools.specs.Table.{Table}
-use Rattle.low_pools.proofs.Ahead.{backlog-ahead, before-ahead}
+use Rattle.pool_table.specs.Table.{Table}
+use Rattle.pool_table.proofs.Ahead.{backlog-ahead, before-ahead}
 
 -- after i frames, all with room
 pub record TableTurn (m : ℕ) (cycles : List ℕ) (i ceiling before : ℕ) : Type 0 where

@@ -18,7 +18,7 @@ use Rattle.schedule.specs.Schedule.{cycleOf}
 use Rattle.header.specs.Limits.{maxFrames}
 use Rattle.pool_counts.specs.Pools.{roomyOf}
 use Rattle.pool_counts.proofs.Frames.{Roomy, roomy-first, roomy-next, roomy-ends, roomy-all}
-use Rattle.low_pools.specs.Table.{tableLength, Zeroed, Low}
+use Rattle.pool_table.specs.Table.{tableLength, Zeroed, Low}
 
 -- of the first i frames, those in cycle c, and those in it or after it
 abbrev dueIn : List ℕ → ℕ → ℕ → ℕ

@@ -13,7 +13,7 @@ use Rattle.counting.specs.Count.{bit}
 use Rattle.schedule.specs.Schedule.{cycleOf, iBacklog}
 use Rattle.schedule.specs.Closed.{readBefore}
 use Rattle.counting.proofs.Sums.{sum-cong, sum-add, all-below}
-use Rattle.low_pools.specs.Table.{cyclesBefore}
+use Rattle.pool_table.specs.Table.{cyclesBefore}
 
 module _ (cycles : List ℕ) where
   abbrev cyc : ℕ → ℕ

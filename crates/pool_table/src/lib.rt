@@ -4,7 +4,7 @@ ghost use mathlib.Core.Path.{_≡_};
 ghost use Prim.Native.Nat.{_≤_};
 ghost use lib.ListN.{length};
 ghost use Rattle.pool_counts.specs.Pools.{roomyOf, peakOf};
-ghost use Rattle.low_pools.specs.Table.{Low};
+ghost use Rattle.pool_table.specs.Table.{Low};
 
 mod reads;
 mod saves;

@@ -17,7 +17,7 @@ use Rattle.counting.proofs.Sums.{sum-cong, sum-add, sum-zero, howMany-le}
 use Rattle.counting.proofs.Bits.{before-or-that, both-after}
 use Rattle.counting.proofs.Lists.{getD-zeros}
 use Rattle.header.specs.Limits.{maxFrames}
-use Rattle.low_pools.specs.Table.{cyclesBefore, tableLength, Zeroed, Low, Tallied, Table}
+use Rattle.pool_table.specs.Table.{cyclesBefore, tableLength, Zeroed, Low, Tallied, Table}
 
 pub zeroed : Zeroed (replicate tableLength 0)
 zeroed = record { long = length-replicate {A = ℕ} tableLength 0; zeros = getD-zeros tableLength }

@@ -6,7 +6,7 @@ ghost use mathlib.Core.Bool.{false};
 ghost use Rattle.counting.specs.Count.{tabulate, largest};
 ghost use Rattle.schedule.specs.Closed.{readBefore};
 ghost use Rattle.pool_counts.specs.Pools.{roomyOf};
-ghost use Rattle.low_pools.specs.Table.{Table};
+ghost use Rattle.pool_table.specs.Table.{Table};
 use counting::Cycle;
 use pool_counts::Room;
 
