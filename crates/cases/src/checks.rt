@@ -1,5 +1,5 @@
 // Plans that anyone made: the checker's verdict on each, and its run on the dock.
-// A plan is written with a digit for each cycle, and L for the largest number, 65,535.
+// A plan is written with a digit for each cycle; K is 4,096, M is 4,097, and L the largest number, 65,535.
 use crate::output;
 use crate::tables;
 use checker::Verdict;

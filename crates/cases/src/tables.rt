@@ -1,7 +1,9 @@
 // The tables: one text. In it # ends a text that is printed as it stands, and | ends an entry, which is shown. > ends a word that says how the
-// entries after it are shown, by its first letter. An entry is a ticket or a new saver; what follows the first space in it goes with that: a plan,
-// steps of the dock, calls of the saver, the layout of a long list, or a dot for each place that a lent buffer has less.
+// entries after it are shown, by its first letter. An entry is a ticket, a new saver or a plan; what follows the first space in it goes with that:
+// a plan, steps of the dock, calls of the saver, the layout of a long list, a frame's position and m, or a dot for each place that a lent buffer has
+// less.
 use crate::checks;
+use crate::counts;
 use crate::docks;
 use crate::library;
 use crate::long_lists;
@@ -27,6 +29,7 @@ fn show_as(how: u8, t: &[u8], more: &[u8]) {
         b'P' => long_lists::planned(t, more),
         b'b' => printed::printed(t, more),
         b'c' => checks::checked(t, more),
+        b'n' => counts::counted(t, more),
         b'C' => library::called(t, more),
         b'd' => docks::driven(t, more),
         b's' => savers::series(t, more, false),
@@ -88,6 +91,8 @@ pub(crate) fn number(b: u8) -> u16 {
         b'D' => 33,
         b'P' => 1024,
         b'Q' => 1025,
+        b'K' => 4096,
+        b'M' => 4097,
         b'L' => 65535,
         _ => (b % 16) as u16,
     }

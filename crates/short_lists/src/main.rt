@@ -1,8 +1,10 @@
-// The product's compiled code against definitions written anew from document 01, for all lists of up to 8 frames on 3 cards and pools 1 to
-// 4: every schedule of the shorter ones, every short list of dock steps, every saver. Writes what was covered and what differed.
+// The product's compiled code against definitions written anew from document 01 and request 2026-03, for all lists of up to 8 frames on 3
+// cards and pools 1 to 4: every schedule of the shorter ones, also with late cycles, and the count in the pool rule of each of its frames; every
+// short list of dock steps; every saver. Writes what was covered and what differed.
 mod bench;
 mod greedy;
 mod lists;
+mod pools;
 mod report;
 mod rules;
 mod runs;
@@ -10,6 +12,7 @@ mod saves;
 mod schedules;
 mod steps;
 mod tickets;
+mod verdicts;
 
 use tickets::Case;
 

@@ -2,7 +2,7 @@
 // An answer that is compared is one number: a list, or a number of cycles.
 use libc::STDOUT_FILENO;
 
-// Counters. Each of the first 14 has the line of its own number in the text.
+// Counters. Each of the first 16 has the line of its own number in the text.
 pub(crate) const LISTS: usize = 0;
 
 // Of the four kinds of schedules: correct, cycle 0, shared card, overfull.
@@ -12,32 +12,55 @@ pub(crate) const COMPLETE: usize = 5;
 
 pub(crate) const CYCLES: usize = 6;
 
-// The topics: the answers compared. The counter 8 places on has the differences.
+// The topics: the answers compared.
 pub(crate) const PLANS: usize = 7;
 
 pub(crate) const FEWEST: usize = 8;
 
 pub(crate) const VERDICTS: usize = 9;
 
-pub(crate) const RUNS: usize = 10;
+pub(crate) const LATE_VERDICTS: usize = 10;
 
-pub(crate) const DOCKS: usize = 11;
+pub(crate) const POOL_COUNTS: usize = 11;
 
-pub(crate) const STEPS: usize = 12;
+pub(crate) const RUNS: usize = 12;
 
-pub(crate) const SAVERS: usize = 13;
+pub(crate) const DOCKS: usize = 13;
+
+pub(crate) const STEPS: usize = 14;
+
+pub(crate) const SAVERS: usize = 15;
+
+// There are so many topics. The counter that many places after a topic's has its differences, so 16 to 24.
+const TOPICS: usize = 9;
 
 // The differences of all topics; and of the one that is written, the answer expected, the answer, and the schedule or steps.
-const DIFFERENCES: usize = 22;
+const DIFFERENCES: usize = 25;
+
+const EXPECTED: usize = 26;
+
+const GOT: usize = 27;
+
+const ITEM: usize = 28;
 
 // The differences that were written out.
-pub(crate) const WRITTEN: usize = 26;
+pub(crate) const WRITTEN: usize = 29;
 
 // What is of no kind that is counted.
 pub(crate) const NO_KIND: usize = 31;
 
+// The lines after those of the counters: without differences; with some; and for the first one of a topic.
+const NONE: usize = 16;
+
+const SOME: usize = 17;
+
+const FIRST: usize = 18;
+
+// The bytes of the text.
+const LENGTH: usize = 1170;
+
 // Everything that is written, line by line. A byte from 128 on stands for the counter of its number less 128.
-fn text() -> [u8; 942] {
+fn text() -> [u8; LENGTH] {
     *b"lists of up to 8 frames on 3 cards, each with pools 1 to 4: \x80
 correct schedules of up to 5 frames, read and save: \x81
 schedules at fault by a cycle 0: \x82
@@ -45,16 +68,18 @@ by a shared card: \x83
 by an overfull pool: \x84
 lists of steps that hand over everything: \x85
 cycles of savers: \x86
-plans of the three modes, with greedyWriting: compared \x87, differences \x8f
-read and save plans of up to 5 frames, with all schedules: compared \x88, differences \x90
-verdicts on all schedules of up to 5 frames: compared \x89, differences \x91
-runs of all schedules of up to 4 frames, and of these plans: compared \x8a, differences \x92
-docks after all lists of steps, up to 8 for 1 and 2 frames, 7 for 3: compared \x8b, differences \x93
-read plans of 1 to 3 frames, whose T cycles fit, with all lists of steps: compared \x8c, differences \x94
-savers, with greedyWriting, and the refused close: compared \x8d, differences \x95
+plans of the three modes, with greedyWriting: compared \x87, differences \x90
+read and save plans of up to 5 frames, with all schedules: compared \x88, differences \x91
+verdicts on all schedules of up to 5 frames: compared \x89, differences \x92
+verdicts on those of up to 4 frames, with cycles 8,000 times as large, and 65,531 later: compared \x8a, differences \x93
+counts of the pool rule, for each frame of those of up to 4 frames: compared \x8b, differences \x94
+runs of all schedules of up to 4 frames, and of read and save plans of up to 5: compared \x8c, differences \x95
+docks after all lists of steps, up to 8 for 1 and 2 frames, 7 for 3: compared \x8d, differences \x96
+read plans of 1 to 3 frames, whose T cycles fit, with all lists of steps: compared \x8e, differences \x97
+savers, with greedyWriting, and the refused close: compared \x8f, differences \x98
 no differences
-DIFFERENCES: \x96
-the first difference: expected \x97, got \x98, for \x99 of the ticket below
+DIFFERENCES: \x99
+the first difference: expected \x9a, got \x9b, for \x9c of the ticket below
 "
 }
 
@@ -71,7 +96,7 @@ fn say(counts: &[u64; 32], from: usize, to: usize) {
     let text = text();
     let mut line: usize = 0;
     let mut i: usize = 0;
-    while i < 942 {
+    while i < LENGTH {
         let b = text[i];
         if (from <= line) & (line < to) {
             if b < 128 {
@@ -102,21 +127,21 @@ pub(crate) fn compare(
         return;
     }
     add(counts, DIFFERENCES, 1);
-    if add(counts, std::num::wrapping_add_usize(topic, 8), 1) == 1 {
-        counts[23] = expected;
-        counts[24] = got;
-        counts[25] = item;
+    if add(counts, std::num::wrapping_add_usize(topic, TOPICS), 1) == 1 {
+        counts[EXPECTED] = expected;
+        counts[GOT] = got;
+        counts[ITEM] = item;
         add(counts, WRITTEN, 1);
         say(counts, topic, std::num::wrapping_add_usize(topic, 1));
-        say(counts, 16, 17);
+        say(counts, FIRST, FIRST + 1);
     }
 }
 
 pub(crate) fn summary(counts: &[u64; 32]) {
-    say(counts, 0, 14);
+    say(counts, 0, NONE);
     if counts[DIFFERENCES] == 0 {
-        say(counts, 14, 15);
+        say(counts, NONE, SOME);
     } else {
-        say(counts, 15, 16);
+        say(counts, SOME, FIRST);
     }
 }

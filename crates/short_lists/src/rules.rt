@@ -1,5 +1,6 @@
 // Correct schedules, as document 01 states them under "Rules from document 000", and a schedule's first fault, as it states it under "The
-// checker and the saver". Everything is counted frame by frame.
+// checker and the saver"; and the count of request 2026-03, which ends at m. Everything is counted frame by frame.
+use crate::lists;
 use crate::lists::at;
 use crate::tickets;
 use crate::tickets::Case;
@@ -75,4 +76,24 @@ pub(crate) fn own_verdict(c: Case, plan: u64) -> Judged {
         position: position,
         cycles: cycles,
     }
+}
+
+// The count in the pool rule of frame i, up to m. The rule's frames, in a save those before i and in a read those after it, are looked at in list
+// order until m of them count. How many count, and how many were looked at.
+pub(crate) fn own_count(c: Case, plan: u64, i: u64) -> u64 {
+    let save = c.mode == tickets::SAVE;
+    let mut count: u64 = 0;
+    let mut looked: u64 = 0;
+    let mut j: u64 = 0;
+    while j < c.n {
+        let in_rule = if save { j < i } else { i < j };
+        if in_rule & (count < c.m) {
+            looked = wrapping_add_u64(looked, 1);
+            if reaches(save, at(plan, j), at(plan, i)) {
+                count = wrapping_add_u64(count, 1);
+            }
+        }
+        j += 1;
+    }
+    lists::list(count, looked, 0, 0, 0, 0)
 }
