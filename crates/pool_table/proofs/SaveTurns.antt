@@ -86,8 +86,8 @@ module _ {m : ℕ} {cycles due : List ℕ} {i full above : ℕ} (v : SaveTurn m 
     pub due-le : getD due full 0 ≤ above
     due-le = omega (arith, v .due-is full full-below, v .above-is, from-splits cycles i full)
 
-    pub save-moves : SaveTurn m cycles due i (full + 1) (above - getD due full 0)
-    save-moves =
+    pub save-moves : {b : ℕ} → b ≡ getD due full 0 → SaveTurn m cycles due i (full + 1) (above - b)
+    save-moves b-is =
         record {
           roomy = v .roomy;
           long = v .long;
