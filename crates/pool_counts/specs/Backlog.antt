@@ -1,4 +1,4 @@
--- The count in the pool rule of one frame, and where it ends (requests 2026-03; document 01, "Rules from document 000").
+-- The count in the pool rule of one frame, and where it ends (request 2026-03; document 01, "Rules from document 000").
 --
 -- The rule compares frame i with some of the others: a save with the earlier frames, a read with the later ones. The frames that count share
 -- the pool with frame i until its cycle. With m of them the pool is overfull, and no further frame need be looked at.
