@@ -68,11 +68,12 @@ same-length c = search needs
 
 returns : tie.Need-returns Inv-loop μ-loop
 returns c =
+    let inv = c .before .before .before .before .before .loop .inv in
     let low = c .before .before .before .before .before .before .before .before .before .pre .1 in
     let pool-is = c .before .before .before .before .before .before .wide .ensures in
     let few-after = c .before .before .before .if1 .left in
     let inside = c .before .before .before .before .loop-test .taken in
-    save-ends (c .before .before .before .before .before .loop .inv) low (omega (arith, pool-is, few-after)) inside (c .before .cycle-index .ensures) (c .if2 .taken)
+    save-ends inv low (omega (arith, pool-is, few-after)) inside (c .before .cycle-index .ensures) (c .if2 .taken)
 
 mul-due : tie.Need-mul-due Inv-loop μ-loop
 mul-due c =
@@ -85,11 +86,12 @@ mul-due c =
 
 slice-read-due : tie.Need-slice-read-due Inv-loop μ-loop
 slice-read-due c =
+    let inv = c .before .before .before .before .before .before .loop .inv in
     let low = c .before .before .before .before .before .before .before .before .before .before .pre .1 in
     let pool-is = c .before .before .before .before .before .before .before .wide .ensures in
     let few-after = c .before .before .before .before .if1 .left in
     let inside = c .before .before .before .before .before .loop-test .taken in
-    cycle-place (c .before .before .before .before .before .before .loop .inv) low (omega (arith, pool-is, few-after)) inside (c .before .before .cycle-index .ensures)
+    cycle-place inv low (omega (arith, pool-is, few-after)) inside (c .before .before .cycle-index .ensures)
 
 add-due : tie.Need-add-due Inv-loop μ-loop
 add-due c =
@@ -111,11 +113,12 @@ mul-due-2 c =
 
 slice-write-due : tie.Need-slice-write-due Inv-loop μ-loop
 slice-write-due c =
+    let inv = c .before .before .before .before .before .before .loop .inv in
     let low = c .before .before .before .before .before .before .before .before .before .before .pre .1 in
     let pool-is = c .before .before .before .before .before .before .before .wide .ensures in
     let few-after = c .before .before .before .before .if1 .left in
     let inside = c .before .before .before .before .before .loop-test .taken in
-    cycle-place (c .before .before .before .before .before .before .loop .inv) low (omega (arith, pool-is, few-after)) inside (c .before .before .cycle-index .ensures)
+    cycle-place inv low (omega (arith, pool-is, few-after)) inside (c .before .before .cycle-index .ensures)
 
 add-above : tie.Need-add-above Inv-loop μ-loop
 add-above c = search needs
