@@ -1,6 +1,7 @@
 pub mod Least
 pub mod Firsts
 pub mod Turned
+pub mod Joined
 pub mod Snoc
 pub mod Lists
 pub mod Parts

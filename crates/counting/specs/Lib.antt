@@ -1,3 +1,4 @@
 pub mod Count
 pub mod Lists
 pub mod Frames
+pub mod Joined

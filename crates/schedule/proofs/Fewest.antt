@@ -47,6 +47,11 @@ module _ (m : ℕ) (cards : List ℕ) (pos : 1 ≤ m) where
             (λ i l. process.greedy-cycles-made m cards (above cards) (below cards) pos i (omega (arith, greedy-correct .one-each))),
       )
 
+-- a read of a list takes as many cycles as a save of the reversed list
+pub read-is-save : (m : ℕ) (cards : List ℕ) → lazyPrefetching m cards .T ≡ greedyWriting m (reverse cards) .T
+unfolding lazyPrefetching
+read-is-save m cards = refl
+
 module _ (m : ℕ) (cards : List ℕ) (pos : 1 ≤ m) where
   abbrev back : List ℕ
   back = reverse cards
@@ -62,16 +67,12 @@ module _ (m : ℕ) (cards : List ℕ) (pos : 1 ≤ m) where
       save-to-read m back (written .cycles) (greedy-correct m back pos) in
       rw (greedy-length m back pos, reverse-reverse cards) at r
 
-  lazy-T : lazy .T ≡ greedyWriting m back .T
-  unfolding lazyPrefetching
-  lazy-T = refl
-
   -- of correct read schedules
   pub lazy-shortest : (others : List ℕ) → CorrectRead m cards others → lazy .T ≤ cyclesIn others
   lazy-shortest others ok =
       omega (
         arith,
-        lazy-T,
+        read-is-save m cards,
         greedy-fewest m back pos (turnRound (cyclesIn others) others) (read-to-save m cards others ok),
         turned-no-longer m iBacklog oBacklog cards others ok,
       )
@@ -95,7 +96,7 @@ module _ (m : ℕ) (cards : List ℕ) (pos : 1 ≤ m) where
       let D : ℕ = suc (largest cards + largest back) in
       omega (
         arith,
-        lazy-T,
+        read-is-save m cards,
         process.greedy-under-bound m back D (λ i l. omega (arith, le-largest back i)) pos (run m cards steps emptyDock .ended)
             (rw (length-reverse cards) (dock-bound m cards D (λ i l. omega (arith, le-largest cards i)) steps h)),
       )

@@ -1,4 +1,6 @@
 pub mod Main
+pub mod SubLists
+pub mod Tabulated
 pub mod Fewest
 pub mod Cases
 pub mod Exact

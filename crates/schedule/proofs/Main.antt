@@ -1,12 +1,14 @@
 -- The public theorems about schedules and the dock, each proved in a module of its own. They hold for every list of cards and every pool m
 -- from 1 on, with no other premise. The definitions are in specs/: Schedule, Greedy, Dock, Drive, Closed; demand 3 as a whole is in
--- specs/Demand.
+-- specs/Demand; joined lists are in crates/counting/specs/Joined.
 -- Assumes nothing.
 use Prim.Native.Nat.{ℕ, _≤_}
 use mathlib.Core.Path.{_≡_, ap, _∙_}
 use mathlib.Core.List.{List, [], _∷_, reverse, map}
 use lib.ListN.{length}
 use Rattle.counting.specs.Count.{tabulate, largest}
+use Rattle.counting.specs.Joined.{Sub, Joined}
+use Rattle.counting.proofs.Joined.{joined-first, joined-second}
 use Rattle.schedule.specs.Schedule.{cyclesIn, oBacklog, iBacklog, CorrectSave, CorrectRead}
 use Rattle.schedule.specs.Greedy.{greedyWriting, turnRound, lazyPrefetching}
 use Rattle.schedule.specs.Dock.{Step, emptyDock, run}
@@ -16,6 +18,7 @@ use Rattle.schedule.specs.Demand.{SaveDemand, Drives, ReadDemand}
 use Rattle.schedule.specs.Closed.{readBefore}
 use Rattle.schedule.specs.Cases.{computed, expected, cases}
 use Rattle.schedule.proofs.Fewest as fewest
+use Rattle.schedule.proofs.SubLists as sublists
 use Rattle.schedule.proofs.Duality as duality
 use Rattle.schedule.proofs.Drive as drive
 use Rattle.schedule.proofs.Peak as peaks
@@ -124,6 +127,24 @@ module _ (m : ℕ) (cards : List ℕ) (pool : 1 ≤ m) where
   pub own-save-valid : verdictOnSave m cards (greedyWriting m cards .cycles) ≡ valid (greedyWriting m cards .T) 0
   own-save-valid =
       save-valid m cards (greedyWriting m cards .cycles) (save-correct m cards pool) ∙ ap (λ T. valid T 0) (save-length m cards pool)
+
+-- Lists with frames left out, and lists joined from two (request 2026-04).
+module _ (m : ℕ) (pool : 1 ≤ m) where
+  -- A list with some frames left out, the others in their order, never needs more cycles than the whole list.
+  pub sub-save : {part whole : List ℕ} → Sub part whole → greedyWriting m part .T ≤ greedyWriting m whole .T
+  sub-save = sublists.save-sub m pool
+
+  pub sub-read : {part whole : List ℕ} → Sub part whole → lazyPrefetching m part .T ≤ lazyPrefetching m whole .T
+  sub-read = sublists.read-sub m pool
+
+  -- "Its fewest cycles are never below those of either half": of a list joined from two, however they alternate, each in its own order.
+  pub joined-save : {first second whole : List ℕ} → Joined first second whole
+      → (greedyWriting m first .T ≤ greedyWriting m whole .T) × (greedyWriting m second .T ≤ greedyWriting m whole .T)
+  joined-save j = (sub-save (joined-first j), sub-save (joined-second j))
+
+  pub joined-read : {first second whole : List ℕ} → Joined first second whole
+      → (lazyPrefetching m first .T ≤ lazyPrefetching m whole .T) × (lazyPrefetching m second .T ≤ lazyPrefetching m whole .T)
+  joined-read j = (sub-read (joined-first j), sub-read (joined-second j))
 
 -- The table of cases.
 pub cases-hold : map computed cases ≡ map expected cases
