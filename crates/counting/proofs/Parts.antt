@@ -1,6 +1,6 @@
 -- Parts of a list, runs of stores, and a list at the front of a table.
 -- Assumes nothing.
-use Prim.Native.Nat.{ℕ, zero, suc, _+_, _-_, _<_}
+use Prim.Native.Nat.{ℕ, zero, suc, _+_, _-_, _≤_, _<_}
 use mathlib.Core.Path.{_≡_, refl, sym, ap, _∙_}
 use mathlib.Core.List.{List, [], _∷_, _++_, append-assoc, map}
 use native.Mathlib.Omega.{arith}
@@ -8,7 +8,7 @@ use native.Mathlib.Nat.{sub-zero, zero-sub, suc-sub-suc, zero-add, add-zero, suc
 use native.Mathlib.Decide.{decLt}
 use lib.Dec.{ltb}
 use lib.ListN.{length, getD, take, drop, set, replicate, length-drop, length-append, length-take}
-use lib.Seq.{take-all, take-add, take-nil, drop-cons, drop-drop, getD-drop, set-at, sets, length-sets, getD-set-same, getD-set-other}
+use lib.Seq.{take-all, take-add, take-nil, drop-cons, drop-drop, getD-drop, set-at, set-comm, sets, length-sets, getD-set-same, getD-set-other}
 use borrow.Author.Tests.{lt-ltb, le-ltb}
 use Rattle.counting.specs.Count.{written}
 
@@ -47,6 +47,21 @@ sets-append l i [] b k e =
     let f : k ≡ i = omega (arith, e) in
     rw f
 sets-append l i (x ∷ a) b k e = sets-append (set l i x) (suc i) a b k (omega (arith, e))
+
+-- a store before a run of stores, and a run before where it begins: the order does not matter
+set-sets : (l : List ℕ) (i k x : ℕ) (b : List ℕ) → i < k → set (sets l k b) i x ≡ sets (set l i x) k b
+set-sets l i k x [] h = refl
+set-sets l i k x (y ∷ b) h =
+    set-sets (set l k y) i (suc k) x b (omega arith)
+    ∙ ap (λ (m : List ℕ). sets m (suc k) b) (set-comm l k i y x (λ e. omega (arith, e)))
+
+sets-sets : (l : List ℕ) (i k : ℕ) (a b : List ℕ) → i + length a ≤ k → sets (sets l k b) i a ≡ sets (sets l i a) k b
+sets-sets l i k [] b h = refl
+sets-sets l i k (x ∷ a) b h =
+    ap (λ (m : List ℕ). sets m (suc i) a) (set-sets l i k x b (omega arith)) ∙ sets-sets (set l i x) (suc i) k a b (omega arith)
+
+pub sets-before : (l : List ℕ) (i : ℕ) (a b : List ℕ) (k : ℕ) → k ≡ i + length a → sets (sets l k b) i a ≡ sets l i (a ++ b)
+sets-before l i a b k e = sets-sets l i k a b (omega (arith, e)) ∙ sets-append l i a b k e
 
 -- the next place of a table set
 pub written-set : (l table : List ℕ) (x : ℕ) → length l < length table → set (written l table) (length l) x ≡ written (l ++ (x ∷ [])) table

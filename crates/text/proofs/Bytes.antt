@@ -31,13 +31,17 @@ small-letter b l h =
       le-leb b 102 h,
     )
 
-raised : (b : ℕ) → 97 ≤ b → b ≤ 102 → upper b ≡ b - 32
+pub raised : (b : ℕ) → 97 ≤ b → b ≤ 102 → upper b ≡ b - 32
 unfolding upper
 raised b l h = rw (le-leb 97 b l, le-leb b 102 h)
 
-stays : (b : ℕ) → b < 97 → upper b ≡ b
+pub stays : (b : ℕ) → b < 97 → upper b ≡ b
 unfolding upper
 stays b h = rw (lt-leb 97 b h)
+
+pub beyond : (b : ℕ) → 102 < b → upper b ≡ b
+unfolding upper
+beyond b h = rw (lt-leb b 102 h, le-leb 97 b (omega arith))
 
 pub data Kind (b : ℕ) : Type 0 where
   isDecimal : 48 ≤ b → b ≤ 57 → digit b ≡ b - 48 → upper b ≡ b → Kind b

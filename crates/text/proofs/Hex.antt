@@ -32,7 +32,7 @@ back-of b (isLetter l h d u) p = rw u (omega (arith, d, l, large-digit (digit b)
 back-of b (isSmall l h d u) p = rw u (omega (arith, d, l, large-digit (digit b) (omega (arith, d, l))))
 back-of b (isNone d u) p = absurd (omega (arith, d, p))
 
-digit-back : (b : ℕ) → digit b < 16 → digitOf (digit b) ≡ upper b
+pub digit-back : (b : ℕ) → digit b < 16 → digitOf (digit b) ≡ upper b
 digit-back b = back-of b (kind b)
 
 pub length-hex : (n x : ℕ) → length (hex n x) ≡ n

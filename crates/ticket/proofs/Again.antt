@@ -46,7 +46,7 @@ module _ (edition : ℕ) (cards seconds : List ℕ) where
         length-hex (secondDigits edition) (secondOf seconds i),
       )
 
-  lines-long : (n : ℕ) → length (lines n) ≡ lineBytes edition * n
+  pub lines-long : (n : ℕ) → length (lines n) ≡ lineBytes edition * n
   unfolding lineTexts
   lines-long zero = omega arith
   lines-long (suc n) =

@@ -47,7 +47,7 @@ module _ (edition : ℕ) (s : List ℕ) (i : ℕ) (l : Line s (lineBytes edition
       rw (card-back, number-back s (at + cardDigits) (secondDigits edition) d (omega (arith, l .inside)))
       (parts-meet (upperCase s) at cardDigits (secondDigits edition))
 
-  line-back : lineText edition (cardAt edition s i) (secondAt edition s i) ++ endOfLine ≡ take (lineBytes edition) (drop at (upperCase s))
+  pub line-back : lineText edition (cardAt edition s i) (secondAt edition s i) ++ endOfLine ≡ take (lineBytes edition) (drop at (upperCase s))
   line-back =
       let u = upperCase s in
       let k : lineDigits edition < length (drop at u) = rw (length-drop, length-upper s) (omega (arith, l .inside)) in
