@@ -1,0 +1,13 @@
+pub mod Cases
+pub mod Merging
+pub mod Order
+pub mod Places
+pub mod Made
+pub mod Turns
+pub mod Packing
+pub mod Capitals
+pub mod OneLine
+pub mod Keys
+pub mod Framed
+pub mod Loop
+pub mod Offsets

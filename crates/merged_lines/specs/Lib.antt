@@ -1,0 +1,3 @@
+pub mod Merge
+pub mod Packed
+pub mod Lines
