@@ -12,8 +12,12 @@ use Rattle.header.specs.Editions.{known, secondDigits}
 use Rattle.header.specs.Heading.{headerOf, withinLimits, headerAnswer, heading}
 use Rattle.frame_lines.specs.Lines.{cardAt, secondAt, secondBefore, lineFault, linesFault, partFault}
 use Rattle.ticket.specs.Ticket.{parse, zeros, lineOf, linePlace}
+use Rattle.ticket.specs.Seconds.{howManySeconds, secondsOf}
 use Rattle.ticket.specs.Print.{lineTexts, ticketText}
 use Rattle.planner.specs.Plan.{planOf, bufferAfter}
+use Rattle.merged_lines.specs.Merge.{merge}
+use Rattle.join.specs.Join.{joinable, joinRead, joinOf, answerOf}
+use Rattle.join.specs.Join as join
 use Rattle.checker.specs.Check.{checkOf}
 use Rattle.plan_run.specs.Run.{ranOf}
 use Rattle.print_lines.specs.Lines.{refusalText}
@@ -29,6 +33,7 @@ use Rattle.firmware.specs.Cases.{Case, call, expected, cases}
 pub cases-hold : map (λ (x : Case). resultOf (call x)) cases ≡ map expected cases
 unfolding saveAndKeep greedyWriting lazyPrefetching run outcome peak stepsTo verdictOnRead verdictOnSave digit digits number isLine digitOf
     hex known secondDigits headerOf withinLimits headerAnswer heading cardAt secondAt secondBefore lineFault linesFault partFault parse zeros
-    lineOf linePlace lineTexts ticketText planOf bufferAfter checkOf ranOf frameLines planText refusalText textOf bytesIn put.bufferAfter
+    lineOf linePlace howManySeconds secondsOf lineTexts ticketText planOf bufferAfter merge joinable joinRead joinOf answerOf
+    join.bufferAfter checkOf ranOf frameLines planText refusalText textOf bytesIn put.bufferAfter
     newOf saveOf closeOf startOf memoryStarted recordAfter bytesAfter driveOf memoryDriven
 cases-hold = refl

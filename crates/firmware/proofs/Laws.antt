@@ -9,12 +9,17 @@ use Rattle.planner.specs.Plan.{planOf, bufferAfter}
 use Rattle.planner.specs.Numbers.{numbersOf}
 use Rattle.planner.specs.Demand3.{Demand3}
 use Rattle.planner.specs.declared.Answer.{Answer}
+use Rattle.join.specs.Join.{joinOf, answerOf, bufferAfter as joinedInto}
+use Rattle.join.specs.Numbers.{numbersOf as numbersOfJoin}
+use Rattle.join.specs.Showing.{Showing}
+use Rattle.join.specs.declared.Answer.{Answer as JoinAnswer}
 use Rattle.checker.specs.Check.{checkOf}
 use Rattle.checker.specs.Numbers.{numbersOf as numbersOfCheck}
 use Rattle.checker.specs.Exact.{Exact}
 use Rattle.checker.specs.declared.Verdict.{Verdict}
-use Rattle.plain_answers.specs.Answers.{countsAnswer, planAnswer, checkAnswer}
+use Rattle.plain_answers.specs.Answers.{countsAnswer, planAnswer, joinAnswer, checkAnswer}
 use Rattle.plain_answers.specs.declared.plans.PlanAnswer.{PlanAnswer}
+use Rattle.plain_answers.specs.declared.joins.JoinAnswer.{JoinAnswer as PlainJoin}
 use Rattle.plain_answers.specs.declared.checks.CheckAnswer.{CheckAnswer}
 
 -- the counts of a ticket, with its number beside them
@@ -32,6 +37,17 @@ module _ (t before after : List ℕ) (a : Answer) (r : PlanAnswer) (e : r ≡ pl
       → (r ≡ planAnswer (numbersOf (planOf (parse t) (length before))))
       × ((after ≡ bufferAfter (parse t) before) × Demand3 t (r .refusal) (r .cycles .0) after)
   planned p = (e ∙ ap planAnswer (p .1 .1 .0), (p .1 .0, rw e (p .1 .1 .1)))
+
+-- the contract of `dockplan_join` from that of `join::join`
+module _ (first second before after : List ℕ) (a : JoinAnswer) (r : PlainJoin) (e : r ≡ joinAnswer (numbersOfJoin a)) where
+  pub joined :
+      (a ≡ answerOf (joinOf first second) (length before))
+      × ((after ≡ joinedInto (joinOf first second) before)
+      × ((numbersOfJoin a ≡ numbersOfJoin (answerOf (joinOf first second) (length before)))
+      × Showing first second (numbersOfJoin a .refusal) (numbersOfJoin a .bytes) after))
+      → (r ≡ joinAnswer (numbersOfJoin (answerOf (joinOf first second) (length before))))
+      × ((after ≡ joinedInto (joinOf first second) before) × Showing first second (r .refusal) (r .bytes) after)
+  joined p = (e ∙ ap joinAnswer (p .1 .1 .0), (p .1 .0, rw e (p .1 .1 .1)))
 
 -- the contract of `dockplan_check` from that of `checker::check`
 module _ (t cycles : List ℕ) (v : Verdict) (r : CheckAnswer) (e : r ≡ checkAnswer (numbersOfCheck v)) where

@@ -9,6 +9,7 @@ use lib.ListN.{length}
 use Rattle.text.specs.UpperCase.{upperCase}
 use Rattle.header.specs.declared.Header.{Header}
 use Rattle.ticket.specs.Print.{asEdition1, withoutSeconds}
+use Rattle.ticket.specs.Seconds.{secondsOf}
 use Rattle.ticket.specs.Ticket.{accepted, parse}
 use Rattle.ticket.proofs.Main as ticket
 use Rattle.firmware.specs.Calls.{Call, withTicket, tellsEdition, resultOf}
@@ -20,16 +21,16 @@ use Rattle.firmware.proofs.Values as values
 pub cases-hold : map (λ (x : Case). resultOf (call x)) cases ≡ map expected cases
 cases-hold = table.cases-hold
 
--- "a plan depends on the values alone": two texts that are accepted with the same values, whatever the case of their digits, get the same
--- answer from every call that takes a ticket, and leave the same in lent memory. A line is handed back as a place of the caller's ticket, and
--- what stands there are the caller's own bytes.
+-- "a plan depends on the values alone": two texts that are accepted with the same values, the seconds among them, whatever the case of their
+-- digits, get the same answer from every call that takes a ticket, and leave the same in lent memory; so do both tickets of a join. A line is
+-- handed back as a place of the caller's ticket, and what stands there are the caller's own bytes.
 pub values-alone :
-    (s t : List ℕ) (h : Header) (cards : List ℕ) → parse s ≡ accepted h cards → parse t ≡ accepted h cards
+    (s t : List ℕ) (h : Header) (cards : List ℕ) → parse s ≡ accepted h cards → parse t ≡ accepted h cards → secondsOf s ≡ secondsOf t
     → (c : Call) → resultOf (withTicket s c) ≡ resultOf (withTicket t c)
-values-alone s t h cards e f = values.alike s t (e ∙ sym f)
+values-alone s t h cards e f x = values.alike s t (e ∙ sym f) x
 
 -- "The second has no say in the plan": two accepted tickets with the same mode, cards, pool and list, of whatever editions, get the same plan,
--- printed text, verdict, run, counts and dock, and leave the same in lent memory. Only `parse` and `line` tell the edition.
+-- printed text, verdict, run, counts and dock, and leave the same in lent memory. Only `parse`, `line` and a join tell the edition.
 pub second-no-say :
     (s t : List ℕ) (g h : Header) (cards : List ℕ) → parse s ≡ accepted g cards → parse t ≡ accepted h cards
     → g .mode ≡ h .mode → g .cards ≡ h .cards → g .pool ≡ h .pool
@@ -48,4 +49,4 @@ edition-1-twin t h cards e =
 
 -- And so do two texts, accepted or not, that differ in the case of their digits alone.
 pub case-alone : (s t : List ℕ) → upperCase s ≡ upperCase t → (c : Call) → resultOf (withTicket s c) ≡ resultOf (withTicket t c)
-case-alone s t e = values.alike s t (ticket.case-alone s t e .0)
+case-alone s t e = values.alike s t (ticket.case-alone s t e .0) (ticket.case-alone s t e .1)

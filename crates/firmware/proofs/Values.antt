@@ -1,4 +1,4 @@
--- What a call answers depends on what its ticket is read as, and on nothing else of the text. Calls that do not tell the edition depend on
+-- What a call answers depends on what its ticket is read as, its seconds among it, and on nothing else of the text. Calls that do not tell the edition depend on
 -- mode, cards, pool and list alone.
 -- Assumes nothing.
 use Prim.Native.Nat.{ℕ, _+_, _*_}
@@ -11,10 +11,11 @@ use native.Mathlib.Decide.{ℕ-discrete}
 use lib.ListN.{length}
 use Rattle.ticket.specs.Grounds.{Fits}
 use Rattle.ticket.specs.Print.{asEdition1}
-use Rattle.ticket.specs.Seconds.{howManySeconds, SecondsFit}
+use Rattle.ticket.specs.Seconds.{howManySeconds, secondsOf, SecondsFit}
 use Rattle.ticket.specs.Ticket.{Parsed, accepted, parse, lineRefusalOf, lineOf, linePlace}
 use Rattle.ticket.proofs.Accepted.{as-many}
 use Rattle.planner.specs.Plan.{planOf, bufferAfter}
+use Rattle.join.specs.Join.{joinOf}
 use Rattle.checker.specs.Check.{checkOf}
 use Rattle.plan_run.specs.Run.{ranOf}
 use Rattle.printing.specs.Printed.{textOf}
@@ -23,10 +24,10 @@ use Rattle.header.specs.Editions.{edition1, lineDigits, lineBytes}
 use Rattle.header.specs.Heading.{headerBytes}
 use Rattle.header.specs.declared.Header.{Header}
 use Rattle.ticket.proofs.Answers.{no-line, no-place, its-place, line-length, same-edition}
-use Rattle.firmware.specs.Calls.{Call, parseTicket, planTicket, printPlan, checkPlan, runPlan, line, counts}
+use Rattle.firmware.specs.Calls.{Call, parseTicket, planTicket, printPlan, joinFirst, joinSecond, checkPlan, runPlan, line, counts}
 use Rattle.firmware.specs.Calls.{newSaver, save, close, startDock, driveDock, withTicket, tellsEdition, resultOf}
 
-module _ (s t : List ℕ) (e : parse s ≡ parse t) where
+module _ (s t : List ℕ) (e : parse s ≡ parse t) (x : secondsOf s ≡ secondsOf t) where
   number-alike : (p : ℕ) → lineRefusalOf (parse s) p ≡ lineRefusalOf (parse t) p
   number-alike p = ap (λ (x : Parsed). lineRefusalOf x p) e
 
@@ -51,10 +52,21 @@ module _ (s t : List ℕ) (e : parse s ≡ parse t) where
         | no n ↦ ap length (sym (no-line s p (sym (number-alike p)) n) ∙ no-line t p refl n)
       ]
 
+  -- a join, with the ticket as its first one or as its second
+  first-alike : (other : List ℕ) → joinOf s other ≡ joinOf t other
+  unfolding joinOf
+  first-alike other = rw (e, x)
+
+  second-alike : (other : List ℕ) → joinOf other s ≡ joinOf other t
+  unfolding joinOf
+  second-alike other = rw (e, x)
+
   pub alike : (c : Call) → resultOf (withTicket s c) ≡ resultOf (withTicket t c)
   alike (parseTicket _) = rw e
   alike (planTicket _ buffer) = rw e
   alike (printPlan _ buffer) = rw e
+  alike (joinFirst _ other buffer) = rw (first-alike other)
+  alike (joinSecond _ other buffer) = rw (second-alike other)
   alike (checkPlan _ cycles) = rw e
   alike (runPlan _ cycles) = rw e
   alike (line _ p) = rw (e, place-alike p, length-alike p)
@@ -80,6 +92,8 @@ module _
   no-say (parseTicket _) q = absurd (true≢false q)
   no-say (planTicket _ buffer) q = rw (e, f, but-edition)
   no-say (printPlan _ buffer) q = rw (e, f, but-edition)
+  no-say (joinFirst _ other buffer) q = absurd (true≢false q)
+  no-say (joinSecond _ other buffer) q = absurd (true≢false q)
   no-say (checkPlan _ cycles) q = rw (e, f, but-edition)
   no-say (runPlan _ cycles) q = rw (e, f, but-edition)
   no-say (line _ p) q = absurd (true≢false q)

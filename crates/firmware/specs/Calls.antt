@@ -8,6 +8,8 @@ use lib.ListN.{length}
 use Rattle.ticket.specs.Ticket.{parse, numbersIn, lineRefusalOf}
 use Rattle.planner.specs.Plan.{planOf, bufferAfter}
 use Rattle.planner.specs.Numbers.{numbersOf as numbersOfPlan}
+use Rattle.join.specs.Join.{Outcome, joinOf, answerOf, bufferAfter as joinedInto}
+use Rattle.join.specs.Numbers.{numbersOf as numbersOfJoin}
 use Rattle.checker.specs.Check.{checkOf}
 use Rattle.checker.specs.Numbers.{numbersOf as numbersOfCheck}
 use Rattle.plan_run.specs.Run.{ranOf}
@@ -22,19 +24,23 @@ use Rattle.dock.specs.Drive.{driveOf, memoryDriven}
 use Rattle.dock.specs.declared.Dock.{Dock}
 use Rattle.dock.specs.declared.Step.{Step}
 use Rattle.dock.specs.declared.Driven.{Driven}
-use Rattle.plain_answers.specs.Answers.{ticketAnswer, linePart, countsAnswer, planAnswer, checkAnswer, runAnswer}
+use Rattle.plain_answers.specs.Answers.{ticketAnswer, linePart, countsAnswer, planAnswer, joinAnswer, checkAnswer, runAnswer}
 use Rattle.plain_answers.specs.declared.tickets.TicketAnswer.{TicketAnswer}
 use Rattle.plain_answers.specs.declared.tickets.Part.{Part}
 use Rattle.plain_answers.specs.declared.tickets.CountsAnswer.{CountsAnswer}
 use Rattle.plain_answers.specs.declared.plans.PlanAnswer.{PlanAnswer}
+use Rattle.plain_answers.specs.declared.joins.JoinAnswer.{JoinAnswer}
 use Rattle.plain_answers.specs.declared.checks.CheckAnswer.{CheckAnswer}
 use Rattle.plain_answers.specs.declared.checks.RunAnswer.{RunAnswer}
 
--- A call, with a ticket and what else it takes: a lent buffer as it is before the call, a plan, a position, a saver's record, memory, a step.
+-- A call, with a ticket and what else it takes: a lent buffer as it is before the call, another ticket, a plan, a position, a saver's record,
+-- memory, a step. A join takes two tickets: the ticket is its first one or its second, and the other one follows.
 pub data Call : Type 0 where
   parseTicket : List ℕ → Call
   planTicket : List ℕ → List ℕ → Call
   printPlan : List ℕ → List ℕ → Call
+  joinFirst : List ℕ → List ℕ → List ℕ → Call
+  joinSecond : List ℕ → List ℕ → List ℕ → Call
   checkPlan : List ℕ → List ℕ → Call
   runPlan : List ℕ → List ℕ → Call
   line : List ℕ → ℕ → Call
@@ -50,6 +56,8 @@ abbrev pub withTicket : List ℕ → Call → Call
 withTicket t (parseTicket _) = parseTicket t
 withTicket t (planTicket _ buffer) = planTicket t buffer
 withTicket t (printPlan _ buffer) = printPlan t buffer
+withTicket t (joinFirst _ other buffer) = joinFirst t other buffer
+withTicket t (joinSecond _ other buffer) = joinSecond t other buffer
 withTicket t (checkPlan _ cycles) = checkPlan t cycles
 withTicket t (runPlan _ cycles) = runPlan t cycles
 withTicket t (line _ p) = line t p
@@ -60,11 +68,14 @@ withTicket t (close s) = close s
 withTicket t (startDock _ memory) = startDock t memory
 withTicket t (driveDock d memory step) = driveDock d memory step
 
--- The calls that tell a ticket's edition: `parse`, which gives it as a number, and `line`, whose place and length depend on how wide a line is.
+-- The calls that tell a ticket's edition or its seconds: `parse`, which gives the edition as a number, `line`, whose place and length depend on how
+-- wide a line is, and a join, which is of edition 02 alone and sorts by seconds.
 abbrev pub tellsEdition : Call → Bool
 tellsEdition (parseTicket _) = true
 tellsEdition (planTicket _ _) = false
 tellsEdition (printPlan _ _) = false
+tellsEdition (joinFirst _ _ _) = true
+tellsEdition (joinSecond _ _ _) = true
 tellsEdition (checkPlan _ _) = false
 tellsEdition (runPlan _ _) = false
 tellsEdition (line _ _) = true
@@ -83,6 +94,8 @@ pub data Result : Type 0 where
   plan : ℕ → ℕ → List ℕ → Result
   -- bytes, the buffer
   text : ℕ → List ℕ → Result
+  -- refusal, bytes, the buffer
+  joinedTicket : ℕ → ℕ → List ℕ → Result
   -- refusal, verdict, position, T, peak
   verdict : ℕ → ℕ → ℕ → ℕ → ℕ → Result
   -- refusal, broken off, complete, delivered, cycles ended, cycles needed, peak
@@ -102,6 +115,9 @@ ofTicket a = ticket (a .refusal) (a .edition) (a .mode) (a .cards) (a .pool) (a 
 abbrev ofPlan : PlanAnswer → List ℕ → Result
 ofPlan a buffer = plan (a .refusal) (a .cycles .0) buffer
 
+abbrev ofJoin : JoinAnswer → List ℕ → Result
+ofJoin a buffer = joinedTicket (a .refusal) (a .bytes) buffer
+
 abbrev ofCheck : CheckAnswer → Result
 ofCheck a = verdict (a .refusal) (a .verdict) (a .position .0) (a .cycles .0) (a .peak)
 
@@ -120,10 +136,16 @@ ofSaver a = saved (a .refusal) (a .cycle .0) (map (λ p. p .0) (a .written)) (a 
 abbrev ofDock : Driven → List ℕ → Result
 ofDock a memory = dock (a .refusal) (a .dock) memory
 
+-- two tickets joined, in a buffer
+abbrev joinResult : Outcome → List ℕ → Result
+joinResult join buffer = ofJoin (joinAnswer (numbersOfJoin (answerOf join (length buffer)))) (joinedInto join buffer)
+
 abbrev pub resultOf : Call → Result
 resultOf (parseTicket t) = ofTicket (ticketAnswer (numbersIn (parse t)))
 resultOf (planTicket t buffer) = ofPlan (planAnswer (numbersOfPlan (planOf (parse t) (length buffer)))) (bufferAfter (parse t) buffer)
 resultOf (printPlan t buffer) = text (bytesIn (printed t) (length buffer)) (textAfter (printed t) buffer)
+resultOf (joinFirst t other buffer) = joinResult (joinOf t other) buffer
+resultOf (joinSecond t other buffer) = joinResult (joinOf other t) buffer
 resultOf (checkPlan t cycles) = ofCheck (checkAnswer (numbersOfCheck (checkOf (parse t) cycles)))
 resultOf (runPlan t cycles) = ofRun (runAnswer (numbersOfRun (ranOf (parse t) cycles)))
 resultOf (line t p) = ofLine (linePart t p) (lineRefusalOf (parse t) p)

@@ -1,4 +1,5 @@
--- The rows of document 01's refusal table, and answers that are no refusal: a call, its input, and the whole answer in plain numbers.
+-- The rows of document 01's refusal table, with those of the requests since, and answers that are no refusal: a call, its input, and the whole
+-- answer in plain numbers.
 -- proofs/Cases.antt proves them by computing. So a number that is changed in a definition and in its code alike is refused here.
 -- Assumes nothing.
 use Prim.Native.Nat.{ℕ}
@@ -10,9 +11,9 @@ use Rattle.ticket.specs.Print.{headerText, ticketText}
 use Rattle.saver.specs.declared.Saver.{Saver}
 use Rattle.dock.specs.declared.Dock.{Dock}
 use Rattle.dock.specs.declared.Step.the-variants.{Read, End}
-use Rattle.firmware.specs.Calls.{Call, parseTicket, planTicket, printPlan, checkPlan, runPlan, line, counts}
+use Rattle.firmware.specs.Calls.{Call, parseTicket, planTicket, printPlan, joinFirst, joinSecond, checkPlan, runPlan, line, counts}
 use Rattle.firmware.specs.Calls.{newSaver, save, close, startDock, driveDock}
-use Rattle.firmware.specs.Calls.{Result, ticket, plan, text, verdict, run, part, cardCounts, saved, dock}
+use Rattle.firmware.specs.Calls.{Result, ticket, plan, text, joinedTicket, verdict, run, part, cardCounts, saved, dock}
 
 infix 70 _gives_
 pub data Case : Type 0 where
@@ -46,6 +47,10 @@ keep001 = ticketOf 1 2 2 2 3 (0 ∷ 0 ∷ 1 ∷ [])
 -- the read ticket in edition 02, with seconds 7, 7 and the highest
 abbrev timed001 : List ℕ
 timed001 = ticketWith 2 0 2 2 3 (0 ∷ 0 ∷ 1 ∷ []) (7 ∷ 7 ∷ 4294967295 ∷ [])
+
+-- edition 02 tickets without frames: mode, cards and pool
+abbrev timedNone : ℕ → ℕ → ℕ → List ℕ
+timedNone mode cards pool = ticketWith 2 mode cards pool 0 [] []
 
 abbrev position : ℕ → Position
 position i = record { 0 = i }
@@ -141,6 +146,9 @@ cases =
     ∷ planTicket read001 (9 ∷ 9 ∷ []) gives plan 10 0 (9 ∷ 9 ∷ [])
     ∷ startDock read001 (7 ∷ 7 ∷ []) gives dock 10 (emptyDock 0 0) (7 ∷ 7 ∷ [])
     ∷ driveDock (emptyDock 3 2) (0 ∷ 0 ∷ []) End gives dock 10 (emptyDock 3 2) (0 ∷ 0 ∷ [])
+    -- or a joined ticket has no room, after 18
+    ∷ joinFirst (timedNone 0 2 2) (timedNone 0 2 2) (replicate 14 9) gives joinedTicket 10 0 (replicate 14 9)
+    ∷ joinFirst (timedNone 0 2 2) (timedNone 0 2 3) (replicate 14 9) gives joinedTicket 18 0 (replicate 14 9)
     -- 11: a plan that is checked or run has not exactly L cycles
     ∷ checkPlan read001 (1 ∷ 2 ∷ []) gives verdict 11 0 0 0 0
     ∷ runPlan read001 (1 ∷ 2 ∷ []) gives run 11 false false 0 0 0 0
@@ -154,6 +162,16 @@ cases =
     ∷ save refusedSaver 1 gives saved 15 0 nothing refusedSaver
     -- 16: a line is wanted at a position not below L
     ∷ line read001 3 gives part 0 0 16
+    -- 18: a ticket to join is not edition 02, is not a read, or cards or pool differ
+    ∷ joinFirst read001 timed001 (replicate 81 9) gives joinedTicket 18 0 (replicate 81 9)
+    ∷ joinSecond read001 timed001 (replicate 81 9) gives joinedTicket 18 0 (replicate 81 9)
+    ∷ joinFirst (timedNone 1 2 2) (timedNone 0 2 2) (replicate 15 9) gives joinedTicket 18 0 (replicate 15 9)
+    ∷ joinFirst (timedNone 0 2 2) (timedNone 2 2 2) (replicate 15 9) gives joinedTicket 18 0 (replicate 15 9)
+    ∷ joinFirst (timedNone 0 2 2) (timedNone 0 3 2) (replicate 15 9) gives joinedTicket 18 0 (replicate 15 9)
+    -- before it each ticket's own, the first ticket's before the second's (19 is in the table of crates/join)
+    ∷ joinFirst [] (ticketOf 3 0 2 2 0 []) [] gives joinedTicket 1 0 []
+    ∷ joinSecond [] (ticketOf 3 0 2 2 0 []) [] gives joinedTicket 2 0 []
+    ∷ joinSecond [] timed001 [] gives joinedTicket 1 0 []
     -- no refusal: what stands in the header, a plan, a line, counts
     ∷ parseTicket read001 gives ticket 0 1 0 2 2 3
     ∷ planTicket read001 (9 ∷ 9 ∷ 9 ∷ 9 ∷ []) gives plan 0 2 (1 ∷ 2 ∷ 2 ∷ 9 ∷ [])
@@ -164,6 +182,22 @@ cases =
     ∷ planTicket timed001 (9 ∷ 9 ∷ 9 ∷ 9 ∷ []) gives plan 0 2 (1 ∷ 2 ∷ 2 ∷ 9 ∷ [])
     ∷ line timed001 1 gives part 26 10 0
     ∷ counts timed001 gives cardCounts 0 (2 ∷ 1 ∷ replicate 30 0)
+    -- joined: at equal seconds the first ticket's frames go before the second's, an earlier second before a later one; later places are kept
+    ∷ joinFirst timed001 (ticketWith 2 0 2 2 2 (1 ∷ 1 ∷ []) (6 ∷ 7 ∷ [])) (replicate 72 9)
+    gives joinedTicket 0 70 (ticketWith 2 0 2 2 5 (1 ∷ 0 ∷ 0 ∷ 1 ∷ 1 ∷ []) (6 ∷ 7 ∷ 7 ∷ 7 ∷ 4294967295 ∷ []) ++ (9 ∷ 9 ∷ []))
+    -- two tickets without frames: their header
+    ∷ joinFirst (timedNone 0 2 2) (timedNone 0 2 2) (replicate 16 9) gives joinedTicket 0 15 (timedNone 0 2 2 ++ (9 ∷ []))
+    -- byte by byte: `02001000020001`, `0b0000000a` joined with `0A0000000A` is written in upper case
+    ∷ joinFirst
+    (48 ∷ 50 ∷ 48 ∷ 48 ∷ 49 ∷ 48 ∷ 48 ∷ 48 ∷ 48 ∷ 50 ∷ 48 ∷ 48 ∷ 48 ∷ 49 ∷ 10
+    ∷ 48 ∷ 98 ∷ 48 ∷ 48 ∷ 48 ∷ 48 ∷ 48 ∷ 48 ∷ 48 ∷ 97 ∷ 10 ∷ [])
+    (ticketWith 2 0 16 2 1 (10 ∷ []) (10 ∷ []))
+    (replicate 37 9)
+    gives
+    joinedTicket 0 37
+    (48 ∷ 50 ∷ 48 ∷ 48 ∷ 49 ∷ 48 ∷ 48 ∷ 48 ∷ 48 ∷ 50 ∷ 48 ∷ 48 ∷ 48 ∷ 50 ∷ 10
+    ∷ 48 ∷ 66 ∷ 48 ∷ 48 ∷ 48 ∷ 48 ∷ 48 ∷ 48 ∷ 48 ∷ 65 ∷ 10
+    ∷ 48 ∷ 65 ∷ 48 ∷ 48 ∷ 48 ∷ 48 ∷ 48 ∷ 48 ∷ 48 ∷ 65 ∷ 10 ∷ [])
     -- digits in either case: `01001f02eb0000`, `01001d01ca0000`; and g, which is none: `010002000g0000`
     ∷ parseTicket (48 ∷ 49 ∷ 48 ∷ 48 ∷ 49 ∷ 102 ∷ 48 ∷ 50 ∷ 101 ∷ 98 ∷ 48 ∷ 48 ∷ 48 ∷ 48 ∷ 10 ∷ []) gives ticket 0 1 0 31 747 0
     ∷ parseTicket (48 ∷ 49 ∷ 48 ∷ 48 ∷ 49 ∷ 100 ∷ 48 ∷ 49 ∷ 99 ∷ 97 ∷ 48 ∷ 48 ∷ 48 ∷ 48 ∷ 10 ∷ []) gives ticket 0 1 0 29 458 0

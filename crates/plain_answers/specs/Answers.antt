@@ -7,12 +7,14 @@ use lib.ListN.{length}
 use Rattle.header.specs.Numbers as header
 use Rattle.ticket.specs.Ticket.{Parsed, refusalOf, lineOf, linePlace, countsOf}
 use Rattle.planner.specs.Numbers as planner
+use Rattle.join.specs.Numbers as join
 use Rattle.checker.specs.Numbers as checker
 use Rattle.plan_run.specs.Numbers as replay
 use Rattle.plain_answers.specs.declared.tickets.TicketAnswer.{TicketAnswer}
 use Rattle.plain_answers.specs.declared.tickets.Part.{Part}
 use Rattle.plain_answers.specs.declared.tickets.CountsAnswer.{CountsAnswer}
 use Rattle.plain_answers.specs.declared.plans.PlanAnswer.{PlanAnswer}
+use Rattle.plain_answers.specs.declared.joins.JoinAnswer.{JoinAnswer}
 use Rattle.plain_answers.specs.declared.checks.CheckAnswer.{CheckAnswer}
 use Rattle.plain_answers.specs.declared.checks.RunAnswer.{RunAnswer}
 
@@ -32,6 +34,10 @@ countsAnswer p = record { refusal = refusalOf p; frames = countsOf p }
 -- T of a plan
 abbrev pub planAnswer : planner.Numbers → PlanAnswer
 planAnswer n = record { refusal = n .refusal; cycles = n .cycles }
+
+-- the bytes of a joined ticket
+abbrev pub joinAnswer : join.Numbers → JoinAnswer
+joinAnswer n = record { refusal = n .refusal; bytes = n .bytes }
 
 -- a verdict by its number, with the position at fault, T and the peak
 abbrev pub checkAnswer : checker.Numbers → CheckAnswer
