@@ -1,21 +1,25 @@
 # The two commands that a newcomer needs:
 #   make plan       prints the plan of an example ticket, or of TICKET=file
 #   make test       passes everything: the gate (proofs, wrong versions, test programs), the examples, the library from Rust
+# For reviewers:
+#   make join       joins FIRST=file and SECOND=file, two halves of a survey, into one ticket on standard output
 # For support:
 #   make explain    says in words what TICKET=file asks for, or where its refusal stands, and checks the plan beside it or PLAN=file
 # For those who link the library:
-#   make firmware   builds target/lib/libdockplan.a and runs two small callers in C, the first one on TICKET
+#   make firmware   builds target/lib/libdockplan.a and runs three small callers in C, the first one on TICKET
 #   make install    copies header, archive and a pkg-config file to PREFIX
 #   make host       compares every call of the library, from Rust, with an implementation of its own
 #   make bench      measures the library against C and Rust, by time and by instructions
 
 TICKET = examples/first.ticket
+FIRST = examples/half_1.ticket
+SECOND = examples/half_2.ticket
 PREFIX = /usr/local
 LIBRARY = target/lib/libdockplan.a
 CARGO = cd host && CARGO_TARGET_DIR=../target/host cargo
 CC_WARNED = $(CC) -std=c99 -O2 -Wall -Wextra -Wpedantic -Iinclude
 
-.PHONY: plan test examples program explain firmware install host bench
+.PHONY: plan test examples program join explain firmware install host bench
 
 plan: program
 	@target/bin/dockplan < $(TICKET)
@@ -45,9 +49,17 @@ $(LIBRARY): crates.txt $(shell find crates -name '*.rt' -o -name '*.antt')
 firmware: $(LIBRARY)
 	@$(CC_WARNED) examples/firmware.c $(LIBRARY) -o target/firmware
 	@$(CC_WARNED) examples/saver.c $(LIBRARY) -o target/saver
+	@$(CC_WARNED) examples/join.c $(LIBRARY) -o target/join
 	@target/firmware < $(TICKET)
 	@echo "and saved as they come, cards 0 0 1 with a pool of 2:"
 	@echo 0 0 1 | target/saver 2 2
+	@target/join examples/half_1.ticket examples/half_2.ticket | cmp - examples/joined.ticket
+	@echo "and two halves of a survey joined into examples/joined.ticket"
+
+# nothing but the joined ticket goes to standard output
+join: $(LIBRARY)
+	@$(CC_WARNED) examples/join.c $(LIBRARY) -o target/join
+	@target/join $(FIRST) $(SECOND)
 
 # the version stands in the header; DESTDIR goes before PREFIX for those who make packages
 install: $(LIBRARY)

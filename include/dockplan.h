@@ -23,15 +23,17 @@
  * A ticket is text: a header of 14 digits and a line for each frame (docs/FORMAT.md). The edition in the header says
  * what a line has: in edition 01 the 2 digits of the frame's card, in edition 02 these and the 8 digits of the second
  * in which it was captured. Seconds may repeat but not fall. They have no say in a plan, its text, a check, a run or
- * the counts. Digits are hexadecimal, in either case; tickets with the same values get the same answers. Any bytes
- * may be handed in as a ticket. L is the number of its frames, T the number of a plan's cycles. The paper is D. A.
- * Hutchinson, P. Sanders and J. S. Vitter, "Duality between prefetching and queued writing with parallel disks".
+ * the counts; two tickets are joined by them. Digits are hexadecimal, in either case; tickets with the same values get
+ * the same answers. Any bytes may be handed in as a ticket. L is the number of its frames, T the number of a plan's
+ * cycles. The paper is D. A. Hutchinson, P. Sanders and J. S. Vitter, "Duality between prefetching and queued writing
+ * with parallel disks".
  *
  * Refusals, in the order in which they are tried: 1 to 6, then line by line 7 before 8 before 17, then 9, which are
- * the ticket's own; after that 10, or 12 before 11, or 16. A saver's are given with its calls.
+ * the ticket's own; after that 10, or 12 before 11, or 16. Where two tickets are joined, the first one's own, then the
+ * second one's, then 18 before 19 before 10. A saver's are given with its calls.
  *
- *    1  the first 15 bytes are not 14 digits and an end byte     9  bytes follow the last line
- *    2  edition is neither 01 nor 02                            10  the plan buffer has fewer than L places
+ *    1  the first 15 bytes are not 14 digits and an end byte    10  the plan buffer has fewer than L places, or the
+ *    2  edition is neither 01 nor 02                                joined ticket has no room
  *    3  mode is over 02                                         11  a plan has not exactly L cycles
  *    4  cards not 1 to 32                                       12  the checker is given mode 02
  *    5  pool not 1 to 1,024                                     13  the saver has taken 4,096 frames
@@ -39,6 +41,9 @@
  *    7  a frame line is missing or is not the digits of         15  a save after closing has begun
  *       the edition, 2 or 10, and an end byte                   16  a line is wanted at a position not below L
  *    8  a card number is not below cards                        17  a second is lower than that of the line before
+ *    9  bytes follow the last line                              18  of two tickets to join, one is not edition 02 or
+ *                                                                   not a read, or cards or pool differ
+ *                                                               19  they have more than 4,096 frames together
  */
 #ifndef DOCKPLAN_H
 #define DOCKPLAN_H
@@ -51,8 +56,8 @@
 extern "C" {
 #endif
 
-/* The version of this header: 103 for 1.3. It grows whenever a call is added or changed, or uses more stack. */
-#define DOCKPLAN_VERSION 103
+/* The version of this header: 104 for 1.4. It grows whenever a call is added or changed, or uses more stack. */
+#define DOCKPLAN_VERSION 104
 
 /* The version of the archive. Header and archive belong together exactly when this is DOCKPLAN_VERSION. */
 uint32_t dockplan_version(void);
@@ -147,6 +152,26 @@ dockplan_plan_answer dockplan_plan(const uint8_t *ticket, size_t bytes, uint16_t
  * changes; DOCKPLAN_MAX_PRINTED_BYTES places are always enough. */
 size_t dockplan_print(const uint8_t *ticket, size_t bytes, uint8_t *text, size_t places);
 #define DOCKPLAN_STACK_PRINT 20816
+
+/* ---- One showing from two tickets ---------------------------------------------------------------------------- */
+
+/* How many bytes the joined ticket has. */
+typedef struct {
+    uint8_t refusal;
+    size_t bytes;
+} dockplan_join_answer;
+
+/* Joins two read tickets of edition 02, such as the halves of a survey, into one, sorted by second: for equal seconds
+ * the first ticket's frames go before the second's, and each ticket's own order is kept. The joined ticket is one of
+ * edition 02 too, a read with the cards and the pool of both and all their frames, L of them together. It stands in
+ * upper case at the front of the buffer, `bytes` is its length, 15 + 11 L, and later places keep their content.
+ * dockplan_parse accepts it, and its T is never below that of either ticket. Refusals: the first ticket's own, 1 to 9
+ * and 17, then the second's; then 18 where one of them is not edition 02 or not a read, or cards or pool differ; then
+ * 19 where L is over 4,096; then 10 where `places` is below 15 + 11 L. DOCKPLAN_MAX_TICKET_BYTES places are always
+ * enough. The tickets are only read, so both may be the same memory. */
+dockplan_join_answer dockplan_join(const uint8_t *first, size_t first_bytes, const uint8_t *second,
+                                   size_t second_bytes, uint8_t *ticket, size_t places);
+#define DOCKPLAN_STACK_JOIN 6688
 
 /* ---- Plans that anyone made ---------------------------------------------------------------------------------- */
 

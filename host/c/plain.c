@@ -28,7 +28,9 @@ enum {
     FEW_PLACES = 10,
     OTHER_LENGTH = 11,
     MODE_NOT_CHECKED = 12,
-    FALLING_SECOND = 17
+    FALLING_SECOND = 17,
+    DIFFERENT_TICKETS = 18,
+    MANY_TOGETHER = 19
 };
 
 /* ---- The ticket -------------------------------------------------------------------------------------------------------------------------- */
@@ -354,6 +356,108 @@ size_t PLAIN(print)(const uint8_t *ticket, size_t bytes, uint8_t *text, size_t p
         *text++ = END;
     }
     return size;
+}
+
+/* ---- Two tickets joined ------------------------------------------------------------------------------------------------------------------ */
+
+#define JOINED_LINE_BYTES (CARD_DIGITS + SECOND_DIGITS + 1)
+
+/* Larger than any eight digits: the key of a ticket whose lines are all taken. */
+#define NO_KEY UINT64_MAX
+
+/* Eight bytes as a number, the first one the highest; and the other way round. */
+static inline uint64_t eight_at(const uint8_t *bytes)
+{
+    uint64_t number;
+    memcpy(&number, bytes, sizeof number);
+    return __builtin_bswap64(number);
+}
+
+static inline void put_eight(uint8_t *bytes, uint64_t number)
+{
+    number = __builtin_bswap64(number);
+    memcpy(bytes, &number, sizeof number);
+}
+
+/* The key of a ticket whose next line this is: the digits of the line's second in upper case, which have the order of their values. A letter has
+ * bit 6 of its byte, and a small one bit 5 too. */
+static inline uint64_t key(const uint8_t *line, const uint8_t *end)
+{
+    if (line == end) {
+        return NO_KEY;
+    }
+    uint64_t digits = eight_at(line + CARD_DIGITS);
+    return digits & ~((digits & 0x4040404040404040) >> 1);
+}
+
+/* Puts a line in upper case: the digits of its card, those of its second, which are its key, and an end byte. */
+static inline void put_line(uint8_t *text, const uint8_t *line, uint64_t key)
+{
+    uint16_t card;
+    memcpy(&card, line, sizeof card);
+    card = (uint16_t)(card & ~((card & 0x4040) >> 1));
+    memcpy(text, &card, sizeof card);
+    put_eight(text + CARD_DIGITS, key);
+    text[CARD_DIGITS + SECOND_DIGITS] = END;
+}
+
+/* One pass over the lines of both tickets: the one with the lower key is the next, the first ticket's where they are equal. A key is worked out
+ * when its ticket moves on. */
+static void put_lines(uint8_t *text, size_t frames, const uint8_t *first, const uint8_t *first_end, const uint8_t *second, const uint8_t *second_end)
+{
+    uint64_t first_key = key(first, first_end);
+    uint64_t second_key = key(second, second_end);
+    for (size_t i = 0; i < frames; i++, text += JOINED_LINE_BYTES) {
+        if (first_key <= second_key) {
+            put_line(text, first, first_key);
+            first += JOINED_LINE_BYTES;
+            first_key = key(first, first_end);
+        } else {
+            put_line(text, second, second_key);
+            second += JOINED_LINE_BYTES;
+            second_key = key(second, second_end);
+        }
+    }
+}
+
+static void put_header(uint8_t *text, dockplan_ticket_answer header, size_t frames)
+{
+    text = put2(put2(put2(text, header.edition), header.mode), header.cards);
+    text = put4(put4(text, header.pool), (unsigned)frames);
+    *text = END;
+}
+
+static bool can_be_joined(dockplan_ticket_answer header)
+{
+    return header.edition == 2 && header.mode == DOCKPLAN_READ;
+}
+
+dockplan_join_answer PLAIN(join)(const uint8_t *first, size_t first_bytes, const uint8_t *second, size_t second_bytes, uint8_t *ticket,
+                                 size_t places)
+{
+    uint8_t card[DOCKPLAN_MAX_FRAMES];
+    dockplan_ticket_answer one = read_ticket(first, first_bytes, card);
+    if (one.refusal != 0) {
+        return (dockplan_join_answer){.refusal = one.refusal};
+    }
+    dockplan_ticket_answer other = read_ticket(second, second_bytes, card);
+    if (other.refusal != 0) {
+        return (dockplan_join_answer){.refusal = other.refusal};
+    }
+    if (!can_be_joined(one) || !can_be_joined(other) || one.cards != other.cards || one.pool != other.pool) {
+        return (dockplan_join_answer){.refusal = DIFFERENT_TICKETS};
+    }
+    size_t frames = (size_t)one.frames + other.frames;
+    if (frames > DOCKPLAN_MAX_FRAMES) {
+        return (dockplan_join_answer){.refusal = MANY_TOGETHER};
+    }
+    size_t size = HEADER_BYTES + frames * JOINED_LINE_BYTES;
+    if (places < size) {
+        return (dockplan_join_answer){.refusal = FEW_PLACES};
+    }
+    put_header(ticket, one, frames);
+    put_lines(ticket + HEADER_BYTES, frames, first + HEADER_BYTES, first + first_bytes, second + HEADER_BYTES, second + second_bytes);
+    return (dockplan_join_answer){.bytes = size};
 }
 
 /* ---- Plans that anyone made -------------------------------------------------------------------------------------------------------------- */

@@ -15,7 +15,7 @@ pub fn belongs_together() -> bool {
     unsafe { raw::dockplan_version() == raw::VERSION }
 }
 
-/// The number of the refusal that a call met, 1 to 17. It is never 0. A ticket's own are 1 to 9 and 17.
+/// The number of the refusal that a call met, 1 to 19. It is never 0. A ticket's own are 1 to 9 and 17.
 #[derive(Clone, Copy, Debug, PartialEq, Eq)]
 pub struct Refusal(pub u8);
 
@@ -84,6 +84,26 @@ pub fn plan(ticket: &[u8], out: &mut [u16]) -> Result<Cycle, Refusal> {
 pub fn print(ticket: &[u8], out: &mut [u8]) -> usize {
     // SAFETY: each pointer and count are those of one slice, and `out` is borrowed alone.
     unsafe { raw::dockplan_print(ticket.as_ptr(), ticket.len(), out.as_mut_ptr(), out.len()) }
+}
+
+/// Joins two read tickets of edition 02 into one, sorted by second, at the front of `out`, and answers how many bytes it
+/// has. For equal seconds the first ticket's frames go before the second's. Refusals 1 to 9 and 17 of the first ticket,
+/// then of the second; then 18 where one is not edition 02 or not a read, or cards or pool differ; then 19 for more than
+/// 4,096 frames together; then 10 where `out` has too few places.
+pub fn join(first: &[u8], second: &[u8], out: &mut [u8]) -> Result<usize, Refusal> {
+    // SAFETY: each pointer and count are those of one slice, and `out` is borrowed alone.
+    let answer = unsafe {
+        raw::dockplan_join(
+            first.as_ptr(),
+            first.len(),
+            second.as_ptr(),
+            second.len(),
+            out.as_mut_ptr(),
+            out.len(),
+        )
+    };
+    accepted(answer.refusal)?;
+    Ok(answer.bytes)
 }
 
 /// What the checker says of a plan: valid, or the lowest position at fault with the first of its faults.

@@ -2,7 +2,7 @@
 //! The default of an answer is all zeros, as beside a refusal.
 
 /// The version of the header that this file repeats.
-pub const VERSION: u32 = 103;
+pub const VERSION: u32 = 104;
 
 /// A cycle, counted from 1.
 #[repr(C)]
@@ -44,6 +44,13 @@ pub struct CountsAnswer {
 pub struct PlanAnswer {
     pub refusal: u8,
     pub cycles: Cycle,
+}
+
+#[repr(C)]
+#[derive(Clone, Copy, Debug, Default, PartialEq, Eq)]
+pub struct JoinAnswer {
+    pub refusal: u8,
+    pub bytes: usize,
 }
 
 pub const NO_VERDICT: u8 = 0;
@@ -107,6 +114,14 @@ extern "C" {
     pub fn dockplan_counts(ticket: *const u8, bytes: usize) -> CountsAnswer;
     pub fn dockplan_plan(ticket: *const u8, bytes: usize, plan: *mut u16, places: usize) -> PlanAnswer;
     pub fn dockplan_print(ticket: *const u8, bytes: usize, text: *mut u8, places: usize) -> usize;
+    pub fn dockplan_join(
+        first: *const u8,
+        first_bytes: usize,
+        second: *const u8,
+        second_bytes: usize,
+        ticket: *mut u8,
+        places: usize,
+    ) -> JoinAnswer;
     pub fn dockplan_check(ticket: *const u8, bytes: usize, plan: *const u16, places: usize) -> CheckAnswer;
     pub fn dockplan_run_plan(ticket: *const u8, bytes: usize, plan: *const u16, places: usize) -> RunAnswer;
     pub fn dockplan_saver_new(cards: u8, pool: u16) -> SaverAnswer;

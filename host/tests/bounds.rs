@@ -108,9 +108,60 @@ fn longest_tickets() {
     }
 }
 
-/// Memory for a ticket, for a plan and for a text.
+/// Two tickets to join, each with every length that it can be cut to, and with a byte after the last line.
+#[test]
+fn cut_tickets_to_join() {
+    let mut memory = Memory::new();
+    let first = b"02000200020003\n0000000E10\n0100000E11\n000000abcd\n\n";
+    let second = b"02000200020002\n0100000e11\n0100000e12\n\n";
+    let [whole_first, whole_second] = [first.len() - 1, second.len() - 1];
+    for length in 0..=first.len() {
+        memory.call_join(&first[..length], &second[..whole_second], 70);
+    }
+    for length in 0..=second.len() {
+        memory.call_join(&first[..whole_first], &second[..length], 70);
+    }
+}
+
+/// Tickets that join to the longest one: of 2,048 frames each, whose seconds alternate, are equal or follow each other, and
+/// of all 4,096 and none. And those that have one frame too many.
+#[test]
+fn longest_tickets_to_join() {
+    let mut memory = Memory::new();
+    let ticket = |frames: u32, second: fn(u32) -> u32| {
+        let lines = (0..frames).map(|position| format!("1F{:08X}\n", second(position)));
+        format!("0200200400{frames:04X}\n{}", lines.collect::<String>())
+    };
+    let even = ticket(2048, |position| 2 * position);
+    let odd = ticket(2048, |position| 2 * position + 1);
+    let last = ticket(2048, |_| u32::MAX);
+    let all = ticket(4096, |position| position);
+    let none = ticket(0, |_| 0);
+    let more = ticket(2049, |position| 2 * position + 1);
+    for (first, second) in [
+        (&even, &odd),
+        (&odd, &even),
+        (&last, &last),
+        (&even, &last),
+        (&last, &odd),
+    ] {
+        memory.call_join(first.as_bytes(), second.as_bytes(), 45_071);
+    }
+    for (first, second) in [
+        (&all, &none),
+        (&none, &all),
+        (&even, &more),
+        (&more, &even),
+        (&all, &all),
+    ] {
+        memory.call_join(first.as_bytes(), second.as_bytes(), 45_071);
+    }
+}
+
+/// Memory for a ticket, for another one, for a plan and for a text.
 struct Memory {
     ticket: Guarded,
+    other: Guarded,
     plan: Guarded,
     text: Guarded,
 }
@@ -119,6 +170,7 @@ impl Memory {
     fn new() -> Memory {
         Memory {
             ticket: Guarded::new(12),
+            other: Guarded::new(12),
             plan: Guarded::new(2),
             text: Guarded::new(12),
         }
@@ -156,6 +208,21 @@ impl Memory {
                 let text = self.text.copy(side, &vec![0xA5; places]);
                 let mut expected = text.to_vec();
                 assert_eq!(dockplan::print(lent, text), reference::print(ticket, &mut expected));
+                assert_eq!(text, expected);
+            }
+        }
+    }
+
+    /// The join of two tickets, and buffers of that many places and fewer, on both sides.
+    fn call_join(&mut self, first: &[u8], second: &[u8], most: usize) {
+        for side in [Side::Front, Side::Back] {
+            let one = self.ticket.copy(side, first);
+            let other = self.other.copy(side, second);
+            for places in [0, 1, 14, 15, most - 1, most] {
+                let text = self.text.copy(side, &vec![0xA5; places]);
+                let mut expected = text.to_vec();
+                let reference = reference::join(first, second, &mut expected);
+                assert_eq!(refusal(dockplan::join(one, other, text)), reference.refusal);
                 assert_eq!(text, expected);
             }
         }

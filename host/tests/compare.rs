@@ -1,9 +1,10 @@
-//! Every call of the library beside the reference, on many tickets, plans and saver calls from a fixed seed.
+//! Every call of the library beside the reference, on many tickets, plans, saver calls and pairs of tickets from a fixed seed.
 //! The tally at the end says how much was compared, and asserts that no edition, refusal or verdict was left out.
 
 mod generate;
 mod judged;
 mod library;
+mod pairs;
 mod same;
 mod tally;
 
@@ -20,6 +21,7 @@ const LONG_FOR_CHECKER: u64 = 12 / PARTS;
 const PLANS_FOR_CHECKER: u64 = 10;
 const SAVER_SEQUENCES: u64 = 3_000 / PARTS;
 const FULL_SAVERS: u64 = 20 / PARTS;
+const PAIRS: u64 = 80_000 / PARTS;
 
 #[test]
 fn every_call_answers_as_the_reference() {
@@ -55,6 +57,10 @@ fn compare_part(seed: u64) -> Tally {
     }
     for _ in 0..LONG_FOR_CHECKER {
         same::judging::compare(&mut random, 4096, PLANS_FOR_CHECKER, &mut tally);
+    }
+    for _ in 0..PAIRS {
+        let pair = pairs::any(&mut random);
+        same::joining::compare(&mut random, &pair, &mut tally);
     }
     tally
 }

@@ -72,7 +72,35 @@ fn null_is_an_empty_plan() {
     }
 }
 
-/// The ticket and the checked plan are lent to be read. They stay as they are, wherever in memory they start.
+/// The same for each of the three pieces of memory that a join is lent: a null ticket is an empty one, which is refused,
+/// and a null buffer has no places.
+#[test]
+fn null_to_join() {
+    const NONE: &[u8] = b"02000200020000\n";
+    let mut text = [0xA5; 26];
+    let (start, places) = (text.as_mut_ptr(), text.len());
+    let refused = |refusal| JoinAnswer { refusal, bytes: 0 };
+    for ticket in [NONE, WITH_SECONDS] {
+        let (one, bytes) = (ticket.as_ptr(), ticket.len());
+        unsafe {
+            assert_eq!(dockplan_join(null(), 0, one, bytes, start, places), refused(1));
+            assert_eq!(dockplan_join(one, bytes, null(), 0, start, places), refused(1));
+            assert_eq!(dockplan_join(one, bytes, one, bytes, null_mut(), 0), refused(10));
+            assert_eq!(dockplan_join(null(), 0, one, bytes, null_mut(), 0), refused(1));
+            assert_eq!(dockplan_join(one, bytes, null(), 0, null_mut(), 0), refused(1));
+        }
+    }
+    unsafe {
+        assert_eq!(dockplan_join(null(), 0, null(), 0, start, places), refused(1));
+        assert_eq!(dockplan_join(null(), 0, null(), 0, null_mut(), 0), refused(1));
+        let falling = b"02000200020002\n0000000001\n0000000000\n";
+        let (one, bytes) = (falling.as_ptr(), falling.len());
+        assert_eq!(dockplan_join(one, bytes, null(), 0, null_mut(), 0), refused(17));
+    }
+    assert_eq!(text, [0xA5; 26]);
+}
+
+/// The tickets and the checked plan are lent to be read. They stay as they are, wherever in memory they start.
 #[test]
 fn inputs_stay_as_they_are() {
     for shift in 0..8 {
@@ -89,7 +117,7 @@ fn call_with_ticket_at(shift: usize, example: &[u8]) {
     let before = memory.clone();
     let mut plan: [u16; 3] = [2, 1, 2];
     let mut out = [0; 3];
-    let mut text = [0; 64];
+    let mut text = [0; 128];
     unsafe {
         let ticket = memory.as_mut_ptr().add(shift).cast_const();
         let cycles = plan.as_mut_ptr().cast_const();
@@ -101,6 +129,8 @@ fn call_with_ticket_at(shift: usize, example: &[u8]) {
         dockplan_print(ticket, bytes, text.as_mut_ptr(), text.len());
         dockplan_check(ticket, bytes, cycles, plan.len());
         dockplan_run_plan(ticket, bytes, cycles, plan.len());
+        let joined = dockplan_join(ticket, bytes, ticket, bytes, text.as_mut_ptr(), text.len());
+        assert_eq!(joined, reference::join(example, example, &mut [0; 128]));
     }
     assert_eq!(memory, before);
     assert_eq!(plan, [2, 1, 2]);
@@ -137,8 +167,22 @@ fn call_again_and_again(edition_and_mode: &str, second: &str, m: u16) {
         assert_eq!(checked, reference::check(&ticket, &plan));
         let run = unsafe { dockplan_run_plan(ticket.as_ptr(), ticket.len(), plan.as_ptr(), plan.len()) };
         assert_eq!(run, reference::run_plan(&ticket, &plan));
+        join_with_itself(&list, m);
         save_all(7, m, &list);
     }
+}
+
+fn join_with_itself(list: &[u8], m: u16) {
+    let mut ticket = format!("020007{m:04X}{:04X}\n", list.len());
+    for (position, card) in list.iter().enumerate() {
+        ticket += &format!("{card:02X}{:08X}\n", position * usize::from(m));
+    }
+    let bytes = 15 + 11 * 2 * list.len();
+    let (mut joined, mut expected) = (vec![0; bytes], vec![0; bytes]);
+    let ticket = ticket.as_bytes();
+    assert_eq!(dockplan::join(ticket, ticket, &mut joined), Ok(bytes));
+    assert_eq!(reference::join(ticket, ticket, &mut expected).bytes, bytes);
+    assert_eq!(joined, expected);
 }
 
 fn save_all(cards: u8, m: u16, list: &[u8]) {
@@ -173,6 +217,7 @@ fn archive_has_the_calls() {
         "counts",
         "plan",
         "print",
+        "join",
         "check",
         "run_plan",
     ] {

@@ -1,5 +1,5 @@
-//! The structs of `raw` beside the header: their layout by hand from the C ABI of x86-64, and as the C compiler says.
-//! A declaration that differs from the header fails here.
+//! The structs of `raw` beside the header: their layout by hand from the C ABI of x86-64, and as the C compiler says; and
+//! what each call takes and answers. A declaration that differs from the header fails here.
 
 use dockplan::raw::*;
 use std::io::Write;
@@ -13,6 +13,7 @@ const _: () = {
     assert!(size_of::<Part>() == 16);
     assert!(size_of::<CountsAnswer>() == 66 && offset_of!(CountsAnswer, frames) == 2);
     assert!(size_of::<PlanAnswer>() == 4 && offset_of!(PlanAnswer, cycles) == 2);
+    assert!(size_of::<JoinAnswer>() == 16 && offset_of!(JoinAnswer, bytes) == 8);
     assert!(size_of::<CheckAnswer>() == 8 && offset_of!(CheckAnswer, position) == 2);
     assert!(size_of::<RunAnswer>() == 12 && offset_of!(RunAnswer, delivered) == 4);
     assert!(size_of::<Saver>() == 3084 && offset_of!(Saver, card) == 11 && offset_of!(Saver, position) == 1036);
@@ -55,10 +56,75 @@ fn structs_are_those_of_the_header() {
         same_layout!(dockplan_part is Part with offset length),
         same_layout!(dockplan_counts_answer is CountsAnswer with refusal frames),
         same_layout!(dockplan_plan_answer is PlanAnswer with refusal cycles),
+        same_layout!(dockplan_join_answer is JoinAnswer with refusal bytes),
         same_layout!(dockplan_check_answer is CheckAnswer with refusal verdict position cycles peak),
         same_layout!(dockplan_run_answer is RunAnswer with refusal broken complete delivered ended needed peak),
         same_layout!(dockplan_saver is Saver with cards pool taken made waiting closing card position),
         same_layout!(dockplan_saver_answer is SaverAnswer with refusal cycle written saver),
+    ]);
+}
+
+/// The name that a type of `raw` has in the header.
+trait InHeader {
+    const NAME: &'static str;
+}
+
+macro_rules! in_header {
+    ($($rust:ty as $c:literal)*) => {
+        $(impl InHeader for $rust {
+            const NAME: &'static str = $c;
+        })*
+    };
+}
+
+in_header! {
+    u8 as "uint8_t"
+    u16 as "uint16_t"
+    u32 as "uint32_t"
+    usize as "size_t"
+    *const u8 as "const uint8_t *"
+    *const u16 as "const uint16_t *"
+    *mut u8 as "uint8_t *"
+    *mut u16 as "uint16_t *"
+    Position as "dockplan_position"
+    TicketAnswer as "dockplan_ticket_answer"
+    Part as "dockplan_part"
+    CountsAnswer as "dockplan_counts_answer"
+    PlanAnswer as "dockplan_plan_answer"
+    JoinAnswer as "dockplan_join_answer"
+    CheckAnswer as "dockplan_check_answer"
+    RunAnswer as "dockplan_run_answer"
+    Saver as "dockplan_saver"
+    SaverAnswer as "dockplan_saver_answer"
+}
+
+/// A C assertion that a call of the header takes and answers these types. That ours does is asked of the Rust compiler.
+macro_rules! same_call {
+    ($call:ident($($argument:ty),*) -> $answer:ty) => {{
+        let _: unsafe extern "C" fn($($argument),*) -> $answer = $call;
+        let arguments: &[&str] = &[$(<$argument>::NAME),*];
+        let arguments = if arguments.is_empty() { "void".into() } else { arguments.join(", ") };
+        let (call, answer) = (stringify!($call), <$answer>::NAME);
+        format!("_Static_assert(_Generic(&{call}, {answer} (*)({arguments}): 1, default: 0), \"{call}\");\n")
+    }};
+}
+
+#[test]
+fn calls_are_those_of_the_header() {
+    compile(&[
+        same_call!(dockplan_version() -> u32),
+        same_call!(dockplan_parse(*const u8, usize) -> TicketAnswer),
+        same_call!(dockplan_line(*const u8, usize, Position) -> Part),
+        same_call!(dockplan_line_refusal(*const u8, usize, Position) -> u8),
+        same_call!(dockplan_counts(*const u8, usize) -> CountsAnswer),
+        same_call!(dockplan_plan(*const u8, usize, *mut u16, usize) -> PlanAnswer),
+        same_call!(dockplan_print(*const u8, usize, *mut u8, usize) -> usize),
+        same_call!(dockplan_join(*const u8, usize, *const u8, usize, *mut u8, usize) -> JoinAnswer),
+        same_call!(dockplan_check(*const u8, usize, *const u16, usize) -> CheckAnswer),
+        same_call!(dockplan_run_plan(*const u8, usize, *const u16, usize) -> RunAnswer),
+        same_call!(dockplan_saver_new(u8, u16) -> SaverAnswer),
+        same_call!(dockplan_saver_save(Saver, u8) -> SaverAnswer),
+        same_call!(dockplan_saver_close(Saver) -> SaverAnswer),
     ]);
 }
 

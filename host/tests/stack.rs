@@ -2,7 +2,8 @@
 //! `cargo test --test stack -- --nocapture` prints the table. The measure itself is in c/stack.c.
 
 use dockplan::raw::{
-    self, CheckAnswer, CountsAnswer, Part, PlanAnswer, Position, RunAnswer, Saver, SaverAnswer, TicketAnswer,
+    self, CheckAnswer, CountsAnswer, JoinAnswer, Part, PlanAnswer, Position, RunAnswer, Saver, SaverAnswer,
+    TicketAnswer,
 };
 use std::ffi::c_void;
 use std::hint::black_box;
@@ -20,6 +21,7 @@ const MAX_CARDS: usize = 32;
 const MAX_POOL: usize = 1024;
 const MAX_FRAMES: usize = 4096;
 const MAX_PRINTED_BYTES: usize = 45061;
+const MAX_TICKET_BYTES: usize = 45071;
 
 // ---- The measure ----
 
@@ -198,6 +200,64 @@ fn tickets_with_plans() -> Vec<(Vec<u8>, Vec<u16>)> {
     pairs
 }
 
+/// Two tickets to join, and the number of their refusal in a buffer with room for all: halves of 2,048 frames whose seconds
+/// mix, are equal or follow each other, one of all frames and one of none; too many frames; different tickets; and a ticket
+/// for each refusal of its own, as the first and as the second.
+fn pairs() -> Vec<(Vec<u8>, Vec<u8>, u8)> {
+    let even = half(2048, |position| 2 * position);
+    let odd = half(2048, |position| 2 * position + 1);
+    let later = half(2048, |position| 0x6AF3_0000 + position);
+    let all = half(MAX_FRAMES, |position| position);
+    let none = half(0, |position| position);
+    let one_more = half(2049, |position| position);
+    let saved = EDITIONS[1].ticket(1, MAX_POOL, &lists()[0]);
+    let of_edition_1 = EDITIONS[0].ticket(0, MAX_POOL, &lists()[0]);
+    let mut pairs = Vec::new();
+    let mut both_ways = |one: &Vec<u8>, other: &Vec<u8>, refusal| {
+        pairs.push((one.clone(), other.clone(), refusal));
+        pairs.push((other.clone(), one.clone(), refusal));
+    };
+    for (one, other) in [
+        (&even, &odd),
+        (&even, &later),
+        (&even, &even),
+        (&all, &none),
+        (&none, &none),
+    ] {
+        both_ways(one, other, 0);
+    }
+    both_ways(&even, &one_more, 19);
+    both_ways(&all, &saved, 18);
+    both_ways(&all, &of_edition_1, 18);
+    for refused in refused_tickets() {
+        let own = unsafe { raw::dockplan_parse(refused.as_ptr(), refused.len()) }.refusal;
+        both_ways(&refused, &all, own);
+    }
+    pairs
+}
+
+/// A read ticket of edition 02 with so many frames, captured in these seconds, and typed in lower case.
+fn half(frames: usize, second: impl Fn(usize) -> usize) -> Vec<u8> {
+    let mut text = format!("0200{MAX_CARDS:02x}{MAX_POOL:04x}{frames:04x}\n");
+    for position in 0..frames {
+        text += &format!("{:02x}{:08x}\n", position % MAX_CARDS, second(position));
+    }
+    text.into_bytes()
+}
+
+#[test]
+fn the_pairs_are_joined_or_meet_every_refusal() {
+    let mut met = [0; 20];
+    for (first, second, refusal) in pairs() {
+        let mut out = vec![0; MAX_TICKET_BYTES];
+        let found = dockplan::join(&first, &second, &mut out).map_or_else(|refusal| refusal.0, |_| 0);
+        assert_eq!(found, refusal);
+        met[usize::from(refusal)] += 1;
+    }
+    let least = |number: usize| usize::from(!(10..=16).contains(&number)) * 2;
+    assert!((0..met.len()).all(|number| met[number] >= least(number)), "{met:?}");
+}
+
 /// Records of savers: new ones, with a full pool, with all frames taken, closing, and the one of a refused new saver.
 fn savers() -> Vec<Saver> {
     let new = |cards, pool| unsafe { raw::dockplan_saver_new(cards, pool) }.saver;
@@ -260,6 +320,28 @@ fn with_buffer<E: Clone + Default, A>(call: Address, room: usize) -> usize {
         })
     };
     with(0).max(with(room))
+}
+
+/// A join, of each pair: in a buffer without places, and in one with room for all.
+fn join() -> usize {
+    type Call = unsafe extern "C" fn(*const u8, usize, *const u8, usize, *mut u8, usize) -> MaybeUninit<JoinAnswer>;
+    let mut buffer = vec![0; MAX_TICKET_BYTES];
+    let start = buffer.as_mut_ptr();
+    let pairs = pairs();
+    let with = |places| {
+        most(raw::dockplan_join as Address, &pairs, |call, (one, other, _)| unsafe {
+            let call = transmute::<Address, Call>(call);
+            black_box(call(
+                one.as_ptr(),
+                one.len(),
+                other.as_ptr(),
+                other.len(),
+                start,
+                places,
+            ));
+        })
+    };
+    with(0).max(with(MAX_TICKET_BYTES))
 }
 
 /// A call on a ticket and a plan.
@@ -348,6 +430,7 @@ fn figures() -> Vec<Figure> {
             0,
             0,
         ),
+        figure("JOIN", join(), 0, 0),
         figure("CHECK", on_plan::<CheckAnswer>(raw::dockplan_check as Address), 0, 0),
         figure(
             "RUN_PLAN",

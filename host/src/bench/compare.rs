@@ -1,8 +1,9 @@
 //! Compares the implementations' answers before anything is measured: whole answers, and all of each buffer.
 
 use crate::implementations::Implementation;
-use crate::inputs::{self, Random, MAX_FRAMES, MAX_PRINTED_BYTES};
-use dockplan::raw::{CheckAnswer, PlanAnswer, TicketAnswer};
+use crate::inputs::{self, Random, MAX_FRAMES, MAX_PRINTED_BYTES, MAX_TICKET_BYTES};
+use crate::pairs::{self, Pair};
+use dockplan::raw::{CheckAnswer, JoinAnswer, PlanAnswer, TicketAnswer};
 use std::collections::BTreeSet;
 
 /// What a implementation answers for one ticket, with the buffers after each call.
@@ -101,6 +102,37 @@ pub fn compare_check(
     }
 }
 
+/// What an implementation answers for two tickets to join, with the buffers after each call.
+type Joined = Vec<(JoinAnswer, Vec<u8>)>;
+
+fn joined(implementation: &Implementation, [first, second]: &Pair, exact: usize) -> Joined {
+    let join = |places| {
+        let mut out = vec![0xAB; places];
+        (implementation.join(first, second, &mut out), out)
+    };
+    lengths(exact, MAX_TICKET_BYTES).map(join).into()
+}
+
+/// Compares the joins of two tickets, and gives the library's.
+pub fn compare_join(library: &Implementation, others: &[&Implementation], pair: &Pair) -> Result<Joined, String> {
+    let frames: usize = pair
+        .iter()
+        .map(|ticket| usize::from(library.parse(ticket).frames))
+        .sum();
+    let exact = 15 + 11 * frames;
+    let expected = joined(library, pair, exact);
+    match others.iter().find(|other| joined(other, pair, exact) != expected) {
+        Some(other) => {
+            let [first, second] = pair.each_ref().map(|ticket| ticket.escape_ascii());
+            Err(format!(
+                "{} joins otherwise than the library: {first} and {second}",
+                other.name
+            ))
+        }
+        None => Ok(expected),
+    }
+}
+
 /// Compares the answers for these tickets, and for so many mixed ones, good and bad. Every refusal and every verdict must
 /// be among them, or the comparison would be worth little.
 pub fn compare_all(
@@ -121,6 +153,24 @@ pub fn compare_all(
             missing.remove(&kind);
         }
     }
+    none_missing(&missing)
+}
+
+/// The same for so many mixed pairs to join.
+pub fn compare_joins(library: &Implementation, others: &[&Implementation], mixed: usize) -> Result<(), String> {
+    let mut random = Random::new(0x9FB2_1C65_1E98_DF25);
+    let refusals = (0..=10).chain(17..=19);
+    let mut missing: BTreeSet<Kind> = refusals.map(Kind::Refusal).collect();
+    for _ in 0..mixed {
+        let pair = pairs::mixed(&mut random);
+        for (answer, _) in compare_join(library, others, &pair)? {
+            missing.remove(&Kind::Refusal(answer.refusal));
+        }
+    }
+    none_missing(&missing)
+}
+
+fn none_missing(missing: &BTreeSet<Kind>) -> Result<(), String> {
     if missing.is_empty() {
         Ok(())
     } else {

@@ -1,7 +1,7 @@
 //! Who is measured: the library, plain C by each compiler, and the simple Rust reference.
 //! All are called through pointers of one type, so that none is inlined into the measure.
 
-use dockplan::raw::{self, CheckAnswer, PlanAnswer, TicketAnswer};
+use dockplan::raw::{self, CheckAnswer, JoinAnswer, PlanAnswer, TicketAnswer};
 use dockplan::reference;
 use std::slice::{from_raw_parts, from_raw_parts_mut};
 
@@ -9,6 +9,7 @@ type Parse = unsafe extern "C" fn(*const u8, usize) -> TicketAnswer;
 type Plan = unsafe extern "C" fn(*const u8, usize, *mut u16, usize) -> PlanAnswer;
 type Check = unsafe extern "C" fn(*const u8, usize, *const u16, usize) -> CheckAnswer;
 type Print = unsafe extern "C" fn(*const u8, usize, *mut u8, usize) -> usize;
+type Join = unsafe extern "C" fn(*const u8, usize, *const u8, usize, *mut u8, usize) -> JoinAnswer;
 
 pub struct Implementation {
     pub name: &'static str,
@@ -16,6 +17,7 @@ pub struct Implementation {
     plan: Plan,
     check: Check,
     print: Print,
+    join: Join,
 }
 
 // SAFETY of these calls: each pointer and count are those of one slice, and what is written is borrowed alone.
@@ -35,6 +37,11 @@ impl Implementation {
     pub fn print(&self, ticket: &[u8], text: &mut [u8]) -> usize {
         unsafe { (self.print)(ticket.as_ptr(), ticket.len(), text.as_mut_ptr(), text.len()) }
     }
+
+    pub fn join(&self, first: &[u8], second: &[u8], out: &mut [u8]) -> JoinAnswer {
+        let (one, other, ticket) = (first.as_ptr(), second.as_ptr(), out.as_mut_ptr());
+        unsafe { (self.join)(one, first.len(), other, second.len(), ticket, out.len()) }
+    }
 }
 
 pub const LIBRARY: Implementation = Implementation {
@@ -43,6 +50,7 @@ pub const LIBRARY: Implementation = Implementation {
     plan: raw::dockplan_plan,
     check: raw::dockplan_check,
     print: raw::dockplan_print,
+    join: raw::dockplan_join,
 };
 
 /// c/plain.c by each compiler that is there.
@@ -53,6 +61,7 @@ pub const C: &[Implementation] = &[
         plan: gcc_plan,
         check: gcc_check,
         print: gcc_print,
+        join: gcc_join,
     },
     #[cfg(clang)]
     Implementation {
@@ -61,6 +70,7 @@ pub const C: &[Implementation] = &[
         plan: clang_plan,
         check: clang_check,
         print: clang_print,
+        join: clang_join,
     },
 ];
 
@@ -71,6 +81,7 @@ pub const RUST: Implementation = Implementation {
     plan: rust_plan,
     check: rust_check,
     print: rust_print,
+    join: rust_join,
 };
 
 extern "C" {
@@ -78,6 +89,14 @@ extern "C" {
     fn gcc_plan(ticket: *const u8, bytes: usize, plan: *mut u16, places: usize) -> PlanAnswer;
     fn gcc_check(ticket: *const u8, bytes: usize, plan: *const u16, places: usize) -> CheckAnswer;
     fn gcc_print(ticket: *const u8, bytes: usize, text: *mut u8, places: usize) -> usize;
+    fn gcc_join(
+        first: *const u8,
+        first_bytes: usize,
+        second: *const u8,
+        second_bytes: usize,
+        ticket: *mut u8,
+        places: usize,
+    ) -> JoinAnswer;
 }
 
 #[cfg(clang)]
@@ -86,6 +105,14 @@ extern "C" {
     fn clang_plan(ticket: *const u8, bytes: usize, plan: *mut u16, places: usize) -> PlanAnswer;
     fn clang_check(ticket: *const u8, bytes: usize, plan: *const u16, places: usize) -> CheckAnswer;
     fn clang_print(ticket: *const u8, bytes: usize, text: *mut u8, places: usize) -> usize;
+    fn clang_join(
+        first: *const u8,
+        first_bytes: usize,
+        second: *const u8,
+        second_bytes: usize,
+        ticket: *mut u8,
+        places: usize,
+    ) -> JoinAnswer;
 }
 
 unsafe extern "C" fn rust_parse(ticket: *const u8, bytes: usize) -> TicketAnswer {
@@ -102,4 +129,16 @@ unsafe extern "C" fn rust_check(ticket: *const u8, bytes: usize, plan: *const u1
 
 unsafe extern "C" fn rust_print(ticket: *const u8, bytes: usize, text: *mut u8, places: usize) -> usize {
     reference::print(from_raw_parts(ticket, bytes), from_raw_parts_mut(text, places))
+}
+
+unsafe extern "C" fn rust_join(
+    first: *const u8,
+    first_bytes: usize,
+    second: *const u8,
+    second_bytes: usize,
+    ticket: *mut u8,
+    places: usize,
+) -> JoinAnswer {
+    let (first, second) = (from_raw_parts(first, first_bytes), from_raw_parts(second, second_bytes));
+    reference::join(first, second, from_raw_parts_mut(ticket, places))
 }

@@ -4,9 +4,10 @@ pub const MAX_CARDS: usize = 32;
 pub const MAX_POOL: usize = 1024;
 pub const MAX_FRAMES: usize = 4096;
 pub const MAX_PRINTED_BYTES: usize = 45061;
+pub const MAX_TICKET_BYTES: usize = 45071;
 
 /// The capture second of the first frame of a measured list.
-const FIRST_SECOND: usize = 0x6AF3_0900;
+pub const FIRST_SECOND: usize = 0x6AF3_0900;
 
 /// Numbers that look random (xorshift).
 pub struct Random(u64);
@@ -64,7 +65,7 @@ pub fn lists() -> [List; 2] {
 }
 
 /// The text of a ticket, edition 1.
-fn ticket(mode: usize, cards: usize, pool: usize, list: &[usize]) -> Vec<u8> {
+pub fn ticket(mode: usize, cards: usize, pool: usize, list: &[usize]) -> Vec<u8> {
     let mut text = format!("01{mode:02X}{cards:02X}{pool:04X}{:04X}\n", list.len());
     for card in list {
         text += &format!("{card:02X}\n");
@@ -73,7 +74,7 @@ fn ticket(mode: usize, cards: usize, pool: usize, list: &[usize]) -> Vec<u8> {
 }
 
 /// The ticket of edition 2 with the same numbers and cards, and with this capture second for each position.
-fn with_seconds(ticket: &[u8], mut second: impl FnMut(usize) -> usize) -> Vec<u8> {
+pub fn with_seconds(ticket: &[u8], mut second: impl FnMut(usize) -> usize) -> Vec<u8> {
     let text = String::from_utf8_lossy(ticket);
     let mut lines = text.lines();
     let numbers = lines.next().and_then(|header| header.strip_prefix("01"));
@@ -85,7 +86,7 @@ fn with_seconds(ticket: &[u8], mut second: impl FnMut(usize) -> usize) -> Vec<u8
 }
 
 /// Each frame on any card.
-fn random_list(random: &mut Random, cards: usize, frames: usize) -> Vec<usize> {
+pub fn random_list(random: &mut Random, cards: usize, frames: usize) -> Vec<usize> {
     (0..frames).map(|_| random.below(cards)).collect()
 }
 
@@ -135,7 +136,7 @@ pub fn mixed_ticket(random: &mut Random) -> Vec<u8> {
 }
 
 /// Changes a byte, cuts a part off, adds a byte, or leaves no ticket at all.
-fn damage(random: &mut Random, text: &mut Vec<u8>) {
+pub fn damage(random: &mut Random, text: &mut Vec<u8>) {
     const BYTES: &[u8] = b"0123456789ABCDEFGabcdefg/:@` \r\n";
     let any_byte = BYTES[random.below(BYTES.len())];
     match random.below(6) {

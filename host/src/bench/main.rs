@@ -7,6 +7,7 @@ mod implementations;
 mod inputs;
 mod instructions;
 mod measure;
+mod pairs;
 mod rows;
 mod table;
 
@@ -17,8 +18,9 @@ use std::env;
 use std::process::ExitCode;
 use table::{Measures, Tally};
 
-/// How many mixed tickets are compared.
+/// How many mixed tickets are compared, and how many pairs of them.
 const MIXED_TICKETS: usize = 4000;
+const MIXED_PAIRS: usize = 8000;
 
 /// Those the library is compared with: each C compiler, then Rust.
 fn others() -> Vec<&'static Implementation> {
@@ -35,13 +37,19 @@ fn compare_answers(lists: &[List], rows: &[Row]) -> Result<(), String> {
     let of_list = |list: &List| rows::MODES.map(|mode| of_mode(list, mode)).concat();
     let tickets: Vec<Vec<u8>> = lists.iter().flat_map(of_list).collect();
     compare::compare_all(&LIBRARY, &others(), &tickets, MIXED_TICKETS)?;
-    rows.iter()
-        .try_for_each(|row| compare::compare_check(&LIBRARY, &others(), &row.work.ticket, &row.work.checked))
+    compare::compare_joins(&LIBRARY, &others(), MIXED_PAIRS)?;
+    for row in rows {
+        compare::compare_check(&LIBRARY, &others(), &row.work.ticket, &row.work.checked)?;
+        for pair in &row.work.pairs {
+            compare::compare_join(&LIBRARY, &others(), pair)?;
+        }
+    }
+    Ok(())
 }
 
 fn measure_row(row: &mut Row, counts: Option<&Vec<u64>>) -> Measures {
     let implementations: Vec<&Implementation> = [&LIBRARY].into_iter().chain(others()).collect();
-    let frames = row.work.frames() as f64;
+    let frames = row.work.frames as f64;
     let times = measure::measure(implementations.len(), |number| {
         (row.make)(implementations[number], &mut row.work)
     });

@@ -2,7 +2,8 @@
 
 use crate::compare::own_plan;
 use crate::implementations::{Implementation, LIBRARY};
-use crate::inputs::{self, List, MAX_FRAMES, MAX_PRINTED_BYTES};
+use crate::inputs::{self, List, MAX_FRAMES, MAX_PRINTED_BYTES, MAX_TICKET_BYTES};
+use crate::pairs::{self, Pair};
 use std::hint::black_box;
 
 pub const READ: usize = 0;
@@ -27,26 +28,40 @@ pub struct Row {
     pub work: Work,
 }
 
-/// What a measured call is given: a ticket, a plan to check, and buffers that are not cleared between calls.
+/// What a measured call is given: a ticket and a plan to check, or two tickets to join, another pair in each call if there
+/// are more; and buffers that are not cleared between calls.
 pub struct Work {
     pub ticket: Vec<u8>,
     pub checked: Vec<u16>,
+    pub pairs: Vec<Pair>,
+    pub frames: usize,
+    calls: usize,
     plan: Vec<u16>,
     text: Vec<u8>,
+    joined: Vec<u8>,
 }
 
 impl Work {
     fn new(ticket: Vec<u8>, checked: Vec<u16>) -> Work {
         Work {
+            frames: checked.len(),
             ticket,
             checked,
+            pairs: Vec::new(),
+            calls: 0,
             plan: vec![0; MAX_FRAMES],
             text: vec![0; MAX_PRINTED_BYTES],
+            joined: vec![0; MAX_TICKET_BYTES],
         }
     }
 
-    pub fn frames(&self) -> usize {
-        self.checked.len()
+    /// Pairs of tickets, each of which joins to one of so many frames.
+    fn to_join(pairs: Vec<Pair>, frames: usize) -> Work {
+        Work {
+            pairs,
+            frames,
+            ..Work::new(Vec::new(), Vec::new())
+        }
     }
 }
 
@@ -64,6 +79,12 @@ fn check(implementation: &Implementation, work: &mut Work) {
 
 fn print(implementation: &Implementation, work: &mut Work) {
     black_box(implementation.print(black_box(&work.ticket), black_box(&mut work.text)));
+}
+
+fn join(implementation: &Implementation, work: &mut Work) {
+    work.calls += 1;
+    let [first, second] = &work.pairs[work.calls % work.pairs.len()];
+    black_box(implementation.join(black_box(first), black_box(second), black_box(&mut work.joined)));
 }
 
 fn mode_name(mode: usize) -> &'static str {
@@ -134,6 +155,18 @@ fn seconds_rows(list: &List) -> Vec<Row> {
     ]
 }
 
+/// The two halves of a list joined; the time is divided among the frames of both.
+fn join_rows(list: &List) -> Vec<Row> {
+    let row = |halves: pairs::Halves| Row {
+        call: "joining",
+        given: format!("two halves of 2,048 frames, {}", halves.name),
+        target: EDITION_2,
+        make: join,
+        work: Work::to_join(halves.pairs, list.cards.len()),
+    };
+    pairs::halves(list).into_iter().map(row).collect()
+}
+
 /// The checker on plans that are not ours: in blocks, for a pool of their own; hopeless ones; and ones close to ours.
 fn foreign_rows(list: &List) -> Vec<Row> {
     let of_mode = |mode| {
@@ -163,5 +196,6 @@ pub fn rows(lists: &[List]) -> Vec<Row> {
     own.chain([typed_row(&lists[0])])
         .chain(foreign_rows(&lists[0]))
         .chain(lists.iter().flat_map(seconds_rows))
+        .chain(join_rows(&lists[0]))
         .collect()
 }

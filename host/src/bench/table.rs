@@ -127,6 +127,8 @@ pub fn print_head(c: &[Implementation], counted: bool) {
     println!("           own, shared or overfull at the end: the planner's with one fault, at the last frame (a read is overfull at the last");
     println!("           one that can be, 192 before it)");
     println!("           own, 5,000 cycles later: the planner's with 5,000 added to each cycle, valid and over 4,096");
+    println!("           joining is given two tickets of edition 02 between which the frames, one in each second, are dealt: each to any of");
+    println!("           the two, in 64 pairs of which each call has the next one; the first 2,048 and the others; or by 64 in turns");
     println!("ns         nanoseconds a frame, of all 4,096 also where the check ends early: the least of {TURNS} runs of 0.25 ms, all taken in");
     println!("           turns; buffers are not cleared between calls");
     println!(

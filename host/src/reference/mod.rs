@@ -4,6 +4,7 @@
 
 mod checker;
 mod dock;
+mod join;
 mod print;
 mod saver;
 mod schedule;
@@ -11,7 +12,7 @@ mod ticket;
 
 pub use saver::Saver;
 
-use crate::raw::{CheckAnswer, CountsAnswer, Cycle, Part, PlanAnswer, Position, RunAnswer, TicketAnswer};
+use crate::raw::{CheckAnswer, CountsAnswer, Cycle, JoinAnswer, Part, PlanAnswer, Position, RunAnswer, TicketAnswer};
 use ticket::Ticket;
 
 /// "Tickets: 1 to 6, then line by line 7 before 8, then 9", with 17 "after 7 and 8 of the same line".
@@ -89,6 +90,29 @@ pub fn print(ticket: &[u8], out: &mut [u8]) -> usize {
         }
         None => 0,
     }
+}
+
+/// "Later places of the buffer keep their content." The bytes of the result are answered.
+pub fn join(first: &[u8], second: &[u8], out: &mut [u8]) -> JoinAnswer {
+    match join_or_refusal(first, second, out) {
+        Ok(bytes) => JoinAnswer { refusal: 0, bytes },
+        Err(refusal) => JoinAnswer {
+            refusal,
+            ..Default::default()
+        },
+    }
+}
+
+/// "Each ticket meets its own refusals first, the first ticket before the second; 10 now also means too few places for
+/// the result, and comes last."
+fn join_or_refusal(first: &[u8], second: &[u8], out: &mut [u8]) -> Result<usize, u8> {
+    let first = Ticket::read(first)?;
+    let second = Ticket::read(second)?;
+    join::allowed(&first, &second)?;
+    let text = join::text(&first, &second);
+    let places = out.get_mut(..text.len()).ok_or(10)?;
+    places.copy_from_slice(&text);
+    Ok(text.len())
 }
 
 /// "Beside a refusal's number, other numbers of the answer are 0."

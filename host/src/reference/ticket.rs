@@ -17,13 +17,14 @@ const CARD_DIGITS: usize = 2;
 const SECOND_DIGITS: usize = 8;
 
 /// An accepted ticket. The list has the card of each frame, in list order. "The second has no say in the plan": it is
-/// read for 17 alone.
+/// there for 17, and to join two tickets.
 pub struct Ticket {
     pub edition: u8,
     pub mode: u8,
     pub cards: u8,
     pub pool: u16,
     pub list: Vec<u8>,
+    pub seconds: Vec<u32>,
     line_digits: usize,
 }
 
@@ -49,13 +50,14 @@ impl Ticket {
         if frames > 4096 {
             return Err(6);
         }
-        let list = read_list(&ticket[HEADER_BYTES..], line_digits, frames, cards)?;
+        let (list, seconds) = read_frames(&ticket[HEADER_BYTES..], line_digits, frames, cards)?;
         Ok(Ticket {
             edition: edition as u8,
             mode: mode as u8,
             cards: cards as u8,
             pool: pool as u16,
             list,
+            seconds,
             line_digits,
         })
     }
@@ -80,12 +82,12 @@ fn line_digits(edition: u32) -> Option<usize> {
 }
 
 /// "Frame lines are read from the part of the ticket that starts after its header": in each line 7 before 8 before 17,
-/// then 9. No second is lower than the 0 before the first line. In edition 01 no digits follow the card, which is the
-/// number 0 on every line.
-fn read_list(after_header: &[u8], line_digits: usize, frames: u32, cards: u32) -> Result<Vec<u8>, u8> {
+/// then 9. The card and the second of each frame. No second is lower than the 0 before the first line. In edition 01 no
+/// digits follow the card, which is the number 0 on every line.
+fn read_frames(after_header: &[u8], line_digits: usize, frames: u32, cards: u32) -> Result<(Vec<u8>, Vec<u32>), u8> {
     let line_bytes = line_digits + 1;
     let mut rest = after_header;
-    let mut list = Vec::new();
+    let (mut list, mut seconds) = (Vec::new(), Vec::new());
     let mut second_before = 0;
     for _ in 0..frames {
         let digits = line_of_digits(rest.get(..line_bytes)).ok_or(7)?;
@@ -99,12 +101,13 @@ fn read_list(after_header: &[u8], line_digits: usize, frames: u32, cards: u32) -
         }
         second_before = second;
         list.push(card as u8);
+        seconds.push(second);
         rest = &rest[line_bytes..];
     }
     if !rest.is_empty() {
         return Err(9);
     }
-    Ok(list)
+    Ok((list, seconds))
 }
 
 /// "The reader hands back that frame's line as a part of the caller's own ticket, without its end byte."

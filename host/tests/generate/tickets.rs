@@ -24,16 +24,16 @@ pub fn line_bytes(edition: usize) -> usize {
 }
 
 /// A ticket's numbers before they are written down. They may be out of range.
-struct Fields {
-    edition: usize,
-    mode: usize,
-    cards: usize,
-    pool: usize,
-    frames: usize,
-    list: Vec<usize>,
-    seconds: Vec<u32>,
+pub struct Fields {
+    pub edition: usize,
+    pub mode: usize,
+    pub cards: usize,
+    pub pool: usize,
+    pub frames: usize,
+    pub list: Vec<usize>,
+    pub seconds: Vec<u32>,
     /// The edition whose lines are written. In a valid ticket it is the header's.
-    edition_of_lines: usize,
+    pub edition_of_lines: usize,
 }
 
 /// Any bytes at all, and most often something close to a ticket, typed in either case.
@@ -62,7 +62,8 @@ pub fn of_length(random: &mut Random, frames: usize) -> Vec<u8> {
     written(&fields(random, frames))
 }
 
-fn fields(random: &mut Random, frames: usize) -> Fields {
+/// The numbers of a ticket of that many frames that is accepted.
+pub fn fields(random: &mut Random, frames: usize) -> Fields {
     let cards = if random.once_in(4) {
         random.between(1, 32)
     } else {
@@ -84,7 +85,7 @@ fn fields(random: &mut Random, frames: usize) -> Fields {
 }
 
 /// Mostly short, sometimes long. The two longest lengths are rare, because they take the most time.
-fn length(random: &mut Random) -> usize {
+pub fn length(random: &mut Random) -> usize {
     match random.below(2000) {
         0..=99 => 0,
         100..=1399 => random.between(1, 12),
@@ -155,7 +156,7 @@ fn second(random: &mut Random) -> u32 {
 }
 
 /// The ticket's text. Each number has its digits, even where it is out of range.
-fn written(fields: &Fields) -> Vec<u8> {
+pub fn written(fields: &Fields) -> Vec<u8> {
     let Fields {
         edition,
         mode,
@@ -174,7 +175,7 @@ fn written(fields: &Fields) -> Vec<u8> {
 }
 
 /// The same ticket as another editor writes it: letters in upper case, in lower case, or mixed within each number.
-fn typed(random: &mut Random, mut ticket: Vec<u8>) -> Vec<u8> {
+pub fn typed(random: &mut Random, mut ticket: Vec<u8>) -> Vec<u8> {
     match random.below(3) {
         0 => {}
         1 => ticket.make_ascii_lowercase(),

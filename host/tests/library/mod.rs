@@ -27,6 +27,11 @@ pub fn print(ticket: &[u8], out: &mut [u8]) -> usize {
     unsafe { dockplan_print(ticket.as_ptr(), ticket.len(), out.as_mut_ptr(), out.len()) }
 }
 
+pub fn join(first: &[u8], second: &[u8], out: &mut [u8]) -> JoinAnswer {
+    let (one, other, ticket) = (first.as_ptr(), second.as_ptr(), out.as_mut_ptr());
+    unsafe { dockplan_join(one, first.len(), other, second.len(), ticket, out.len()) }
+}
+
 pub fn check(ticket: &[u8], plan: &[u16]) -> CheckAnswer {
     unsafe { dockplan_check(ticket.as_ptr(), ticket.len(), plan.as_ptr(), plan.len()) }
 }

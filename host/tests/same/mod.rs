@@ -1,7 +1,8 @@
-//! The comparisons: each call's whole answer and the whole lent memory, of the library and of the reference; and the
-//! library's answers for two tickets that must be answered alike.
+//! The comparisons: each call's whole answer and the whole lent memory, of the library and of the reference; the library's
+//! answers for two tickets that must be answered alike; and what must hold of a joined ticket.
 
 pub mod foreign;
+pub mod joining;
 pub mod judging;
 pub mod planning;
 pub mod reading;

@@ -8,7 +8,7 @@ use dockplan::raw::Position;
 
 /// Compares the library's answers for a ticket and for its upper-case text; the plan is checked and run for both.
 pub fn compare(ticket: &[u8], frames: u16, plan: &[u16], tally: &mut Tally) {
-    let upper: Vec<u8> = ticket.iter().map(|&byte| upper(byte)).collect();
+    let upper = in_upper_case(ticket);
     tally.typed(ticket, &upper, frames);
     same(ticket, "parse", &library::parse(ticket), &library::parse(&upper));
     answered_alike(ticket, &upper, frames, plan);
@@ -23,6 +23,11 @@ pub fn compare(ticket: &[u8], frames: u16, plan: &[u16], tally: &mut Tally) {
             &&ticket[part.offset..part.offset + part.length],
         );
     }
+}
+
+/// The same ticket in upper case.
+pub fn in_upper_case(ticket: &[u8]) -> Vec<u8> {
+    ticket.iter().map(|&byte| upper(byte)).collect()
 }
 
 /// a to f become A to F, and every other byte stays.

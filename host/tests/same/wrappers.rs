@@ -3,7 +3,7 @@
 use crate::generate::Random;
 use crate::library;
 use crate::tally::Tally;
-use dockplan::raw::{self, CheckAnswer, CountsAnswer, PlanAnswer, RunAnswer, SaverAnswer, TicketAnswer};
+use dockplan::raw::{self, CheckAnswer, CountsAnswer, JoinAnswer, PlanAnswer, RunAnswer, SaverAnswer, TicketAnswer};
 use dockplan::{Cycle, Position, Refusal, Run, Saved, Saver, Verdict};
 
 /// Compares every wrapper on one ticket and one plan.
@@ -55,6 +55,16 @@ fn compare_plan(ticket: &[u8], places: usize) {
 fn compare_print(ticket: &[u8], places: usize) {
     let (mut one, mut other) = (vec![0xA5; places], vec![0xA5; places]);
     assert_eq!(dockplan::print(ticket, &mut one), library::print(ticket, &mut other));
+    assert_eq!(one, other);
+}
+
+/// Compares the wrapped join of two tickets into that many places.
+pub fn compare_join(first: &[u8], second: &[u8], places: usize) {
+    let (mut one, mut other) = (vec![0xA5; places], vec![0xA5; places]);
+    assert_eq!(
+        join_answer(dockplan::join(first, second, &mut one)),
+        library::join(first, second, &mut other)
+    );
     assert_eq!(one, other);
 }
 
@@ -122,6 +132,16 @@ fn plan_answer(wrapped: Result<Cycle, Refusal>) -> PlanAnswer {
     match wrapped {
         Ok(cycles) => PlanAnswer { refusal: 0, cycles },
         Err(Refusal(refusal)) => PlanAnswer {
+            refusal,
+            ..Default::default()
+        },
+    }
+}
+
+fn join_answer(wrapped: Result<usize, Refusal>) -> JoinAnswer {
+    match wrapped {
+        Ok(bytes) => JoinAnswer { refusal: 0, bytes },
+        Err(Refusal(refusal)) => JoinAnswer {
             refusal,
             ..Default::default()
         },

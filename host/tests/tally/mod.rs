@@ -1,8 +1,10 @@
 //! Counts of what was compared, so that a comparison of too little is seen.
 
+mod joins;
 mod verdicts;
 
 use dockplan::raw::{CheckAnswer, RunAnswer};
+use joins::Joins;
 use verdicts::Verdicts;
 
 /// How much was compared, and how often each refusal, each verdict and each end of a run occurred.
@@ -26,12 +28,13 @@ pub struct Tally {
     later_refusals: [u64; NUMBERS],
     saver_refusals: [u64; NUMBERS],
     pub verdicts: Verdicts,
+    pub joins: Joins,
     broken: u64,
     complete: u64,
     incomplete: u64,
 }
 
-/// The numbers of the refusals, and 0.
+/// The numbers of the refusals of one ticket or saver, and 0. Those of two tickets are over them.
 const NUMBERS: usize = 18;
 
 /// The refusals that a saver's calls can meet.
@@ -102,6 +105,7 @@ impl Tally {
         add_each(&mut self.later_refusals, &other.later_refusals);
         add_each(&mut self.saver_refusals, &other.saver_refusals);
         self.verdicts.add(&other.verdicts);
+        self.joins.add(&other.joins);
     }
 
     pub fn print(&self) {
@@ -131,6 +135,7 @@ impl Tally {
             "runs: {} broken off, {} complete, {} incomplete",
             self.broken, self.complete, self.incomplete
         );
+        self.joins.print();
     }
 
     /// The comparison had enough of everything.
@@ -149,6 +154,7 @@ impl Tally {
         often_enough("later calls", &self.later_refusals, &LATER);
         often_enough("savers", &self.saver_refusals, &OF_SAVER);
         self.verdicts.assert_not_rare();
+        self.joins.assert_not_rare();
     }
 }
 
