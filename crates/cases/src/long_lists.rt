@@ -1,4 +1,4 @@
-// Long lists: 4,096 frames on 32 cards in three layouts. A ticket of the table is a header; its lines are made here.
+// Long lists: 4,096 frames on 32 cards in three layouts. A ticket of the table is a header; its lines are made here, and those of long_joins.rt.
 use crate::checks;
 use crate::output;
 use crate::plans;
@@ -7,22 +7,48 @@ use crate::tables;
 // The bytes of such a ticket, of edition 01.
 pub(crate) const LONG: usize = 15 + 3 * 4096;
 
-// Byte i of a ticket with this header. The card of a frame is by the first letter of the layout: one card, round robin, or blocks.
+fn digit(x: usize) -> u8 {
+    let low = (x % 16) as u8;
+    if low < 10 { b'0' + low } else { b'7' + low }
+}
+
+// Byte i of a line of edition 01.
+fn line_byte(i: usize, card: usize) -> u8 {
+    match i {
+        0 => digit(card / 16),
+        1 => digit(card),
+        _ => b'\n',
+    }
+}
+
+// Byte i of a line of edition 02, with a second below 65,536.
+fn timed_byte(i: usize, card: usize, second: usize) -> u8 {
+    match i {
+        0 => digit(card / 16),
+        1 => digit(card),
+        2..=5 => b'0',
+        6 => digit(second / 4096),
+        7 => digit(second / 256),
+        8 => digit(second / 16),
+        9 => digit(second),
+        _ => b'\n',
+    }
+}
+
+// Byte i of a ticket with this header. Its lines are by the first letter of the layout: one card, round robin, or blocks; and for edition 02 those
+// of the first or of the second of two tickets.
 fn byte_of(header: &[u8], layout: u8, i: usize) -> u8 {
     if i < header.len() {
         return header[i];
     }
     let past = i - header.len();
-    let card = match layout {
-        b'r' => past / 3 % 32,
-        b'b' => past / 384 % 32,
-        _ => 0,
-    };
-    let low = (card % 16) as u8;
-    match past % 3 {
-        0 => b'0' + (card / 16 % 16) as u8,
-        1 => if low < 10 { b'0' + low } else { b'7' + low },
-        _ => b'\n',
+    let timed = past / 11 % 4096;
+    match layout {
+        b'r' => line_byte(past % 3, past / 3 % 32),
+        b'b' => line_byte(past % 3, past / 384 % 32),
+        b'f' => timed_byte(past % 11, timed % 32, 3 * timed),
+        b's' => timed_byte(past % 11, 31 - timed % 32, 2 * timed),
+        _ => line_byte(past % 3, 0),
     }
 }
 

@@ -3,7 +3,9 @@
 mod checks;
 mod counts;
 mod docks;
+mod joins;
 mod library;
+mod long_joins;
 mod long_lists;
 mod output;
 mod plans;
@@ -18,7 +20,7 @@ use libc::STDIN_FILENO;
 
 // Tables that do not fit into the buffer would be missing from what is printed.
 fn main() {
-    let mut text = [0u8; 16384];
+    let mut text = [0u8; 32768];
     let read = io::read_full(STDIN_FILENO, &mut text);
     tables::each(&text[..read]);
 }

@@ -1,11 +1,15 @@
 // The tables: one text. In it # ends a text that is printed as it stands, and | ends an entry, which is shown. > ends a word that says how the
 // entries after it are shown, by its first letter. An entry is a ticket, a new saver or a plan; what follows the first space in it goes with that:
-// a plan, steps of the dock, calls of the saver, the layout of a long list, a frame's position and m, or a dot for each place that a lent buffer has
-// less.
+// a plan, steps of the dock, calls of the saver, the layout of a long list, a frame's position and m, a dot for each place that a lent buffer has
+// less, or the ticket to join it with, and after another space dots for the places lent.
+ghost use Prim.Native.Nat.{_≤_};
+ghost use lib.ListN.{length};
 use crate::checks;
 use crate::counts;
 use crate::docks;
+use crate::joins;
 use crate::library;
+use crate::long_joins;
 use crate::long_lists;
 use crate::output;
 use crate::plans;
@@ -28,6 +32,9 @@ fn show_as(how: u8, t: &[u8], more: &[u8]) {
         b'p' => plans::planned(t, more),
         b'P' => long_lists::planned(t, more),
         b'b' => printed::printed(t, more),
+        b'j' => joins::joined(t, more, false),
+        b'J' => joins::joined(t, more, true),
+        b'L' => long_joins::joined(t, more),
         b'c' => checks::checked(t, more),
         b'n' => counts::counted(t, more),
         b'C' => library::called(t, more),
@@ -38,21 +45,42 @@ fn show_as(how: u8, t: &[u8], more: &[u8]) {
     }
 }
 
-// Shows an entry, and ends its last line.
-fn show(how: u8, entry: &[u8]) {
-    let start: usize = 0;
-    let end = entry.len();
+// The place of the first space in a text, or its end.
+fn first_space(text: &[u8]) -> usize
+    ensures { λ r. ⌜ r ≤ length (now (text .entry)) ⌝ }
+{
+    let end = text.len();
     let mut at = end;
-    let mut next = end;
     let mut i = end;
     while 0 < i {
         i -= 1;
-        if entry[i] == b' ' {
+        if text[i] == b' ' {
             at = i;
-            next = i + 1;
         }
     }
-    show_as(how, &entry[start..at], &entry[next..end]);
+    at
+}
+
+// What stands before the first space of a text, and what follows it.
+pub(crate) fn word(text: &[u8]) -> &[u8] {
+    let start: usize = 0;
+    let end = first_space(text);
+    &text[start..end]
+}
+
+pub(crate) fn after_word(text: &[u8]) -> &[u8] {
+    let end = text.len();
+    let at = first_space(text);
+    if at < end {
+        let start = at + 1;
+        return &text[start..end];
+    }
+    &text[at..end]
+}
+
+// Shows an entry, and ends its last line.
+fn show(how: u8, entry: &[u8]) {
+    show_as(how, word(entry), after_word(entry));
     output::byte(b'\n');
 }
 
