@@ -1,8 +1,9 @@
-// The product's compiled code against definitions written anew from document 01 and request 2026-03, for all lists of up to 8 frames on 3
-// cards and pools 1 to 4: every schedule of the shorter ones, also with late cycles, and the count in the pool rule of each of its frames; every
-// short list of dock steps; every saver. Writes what was covered and what differed.
+// The product's compiled code against definitions written anew from document 01 and requests 2026-03 and 2026-04, for all lists of up to 8
+// frames on 3 cards and pools 1 to 4: every schedule of the shorter ones, also with late cycles, and the count in the pool rule of each of its
+// frames; every short list of dock steps; every saver; and every pair of short timed lists, joined. Writes what was covered and what differed.
 mod bench;
 mod greedy;
+mod joins;
 mod lists;
 mod pools;
 mod report;
@@ -29,7 +30,7 @@ fn planned(ticket: &[u8]) -> u64 {
 }
 
 // One ticket: its plan against greedyWriting; then what else is compared of it. After differences that were written out comes their ticket.
-fn one_ticket(counts: &mut [u64; 32], c: Case) {
+fn one_ticket(counts: &mut report::Counts, c: Case) {
     let before = report::add(counts, report::WRITTEN, 0);
     let text = tickets::text_of(c);
     let ticket = &text[0..15 + 3 * ((c.n % 9) as usize)];
@@ -52,9 +53,9 @@ fn one_ticket(counts: &mut [u64; 32], c: Case) {
     }
 }
 
-// All lists of 0 to 8 frames, each with pools 1 to 4 in the three modes.
+// All lists of 0 to 8 frames, each with pools 1 to 4 in the three modes; then the joined ones.
 fn main() {
-    let mut counts = [0u64; 32];
+    let mut counts = [0u64; 64];
     let mut n: u64 = 0;
     while n < 9 {
         let total = lists::how_many(n, 2);
@@ -76,5 +77,6 @@ fn main() {
         }
         n += 1;
     }
+    joins::compare_all(&mut counts);
     report::summary(&counts);
 }

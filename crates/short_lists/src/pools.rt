@@ -21,7 +21,7 @@ fn counted(save: bool, plan: &[u16], i: usize, m: u16) -> u64 {
 }
 
 // A difference is written out with the schedule, which has the frame's position behind 8 cycles.
-pub(crate) fn compare_counts(counts: &mut [u64; 32], c: Case, plan: u64) {
+pub(crate) fn compare_counts(counts: &mut report::Counts, c: Case, plan: u64) {
     let cycles = lists::to_array(plan);
     let n = (c.n % 9) as usize;
     let mut i: usize = 0;

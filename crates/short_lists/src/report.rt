@@ -2,7 +2,9 @@
 // An answer that is compared is one number: a list, or a number of cycles.
 use libc::STDOUT_FILENO;
 
-// Counters. Each of the first 16 has the line of its own number in the text.
+// Counters. Each of the first 18 has the line of its own number in the text.
+pub(crate) type Counts = [u64; 64];
+
 pub(crate) const LISTS: usize = 0;
 
 // Of the four kinds of schedules: correct, cycle 0, shared card, overfull.
@@ -31,33 +33,37 @@ pub(crate) const STEPS: usize = 14;
 
 pub(crate) const SAVERS: usize = 15;
 
-// There are so many topics. The counter that many places after a topic's has its differences, so 16 to 24.
-const TOPICS: usize = 9;
+pub(crate) const JOINS: usize = 16;
+
+pub(crate) const JOINED_CYCLES: usize = 17;
+
+// There are so many topics. The counter that many places after a topic's has its differences, so 18 to 28.
+const TOPICS: usize = 11;
 
 // The differences of all topics; and of the one that is written, the answer expected, the answer, and the schedule or steps.
-const DIFFERENCES: usize = 25;
+const DIFFERENCES: usize = 29;
 
-const EXPECTED: usize = 26;
+const EXPECTED: usize = 30;
 
-const GOT: usize = 27;
+const GOT: usize = 31;
 
-const ITEM: usize = 28;
+const ITEM: usize = 32;
 
 // The differences that were written out.
-pub(crate) const WRITTEN: usize = 29;
+pub(crate) const WRITTEN: usize = 33;
 
 // What is of no kind that is counted.
-pub(crate) const NO_KIND: usize = 31;
+pub(crate) const NO_KIND: usize = 34;
 
 // The lines after those of the counters: without differences; with some; and for the first one of a topic.
-const NONE: usize = 16;
+const NONE: usize = 18;
 
-const SOME: usize = 17;
+const SOME: usize = 19;
 
-const FIRST: usize = 18;
+const FIRST: usize = 20;
 
 // The bytes of the text.
-const LENGTH: usize = 1170;
+const LENGTH: usize = 1362;
 
 // Everything that is written, line by line. A byte from 128 on stands for the counter of its number less 128.
 fn text() -> [u8; LENGTH] {
@@ -68,31 +74,33 @@ by a shared card: \x83
 by an overfull pool: \x84
 lists of steps that hand over everything: \x85
 cycles of savers: \x86
-plans of the three modes, with greedyWriting: compared \x87, differences \x90
-read and save plans of up to 5 frames, with all schedules: compared \x88, differences \x91
-verdicts on all schedules of up to 5 frames: compared \x89, differences \x92
-verdicts on those of up to 4 frames, with cycles 8,000 times as large, and 65,531 later: compared \x8a, differences \x93
-counts of the pool rule, for each frame of those of up to 4 frames: compared \x8b, differences \x94
-runs of all schedules of up to 4 frames, and of read and save plans of up to 5: compared \x8c, differences \x95
-docks after all lists of steps, up to 8 for 1 and 2 frames, 7 for 3: compared \x8d, differences \x96
-read plans of 1 to 3 frames, whose T cycles fit, with all lists of steps: compared \x8e, differences \x97
-savers, with greedyWriting, and the refused close: compared \x8f, differences \x98
+plans of the three modes, with greedyWriting: compared \x87, differences \x92
+read and save plans of up to 5 frames, with all schedules: compared \x88, differences \x93
+verdicts on all schedules of up to 5 frames: compared \x89, differences \x94
+verdicts on those of up to 4 frames, with cycles 8,000 times as large, and 65,531 later: compared \x8a, differences \x95
+counts of the pool rule, for each frame of those of up to 4 frames: compared \x8b, differences \x96
+runs of all schedules of up to 4 frames, and of read and save plans of up to 5: compared \x8c, differences \x97
+docks after all lists of steps, up to 8 for 1 and 2 frames, 7 for 3: compared \x8d, differences \x98
+read plans of 1 to 3 frames, whose T cycles fit, with all lists of steps: compared \x8e, differences \x99
+savers, with greedyWriting, and the refused close: compared \x8f, differences \x9a
+joined tickets, of all pairs of timed lists of up to 3 frames, pools 1 to 3: compared \x90, differences \x9b
+cycles of the joined tickets, not fewer than of either ticket: compared \x91, differences \x9c
 no differences
-DIFFERENCES: \x99
-the first difference: expected \x9a, got \x9b, for \x9c of the ticket below
+DIFFERENCES: \x9d
+the first difference: expected \x9e, got \x9f, for \xa0 of the ticket below
 "
 }
 
 // Counts n more of something, and answers how many there are then.
-pub(crate) fn add(counts: &mut [u64; 32], i: usize, n: u64) -> u64 {
-    let k = i % 32;
+pub(crate) fn add(counts: &mut Counts, i: usize, n: u64) -> u64 {
+    let k = i % 64;
     let sum = std::num::wrapping_add_u64(counts[k], n);
     counts[k] = sum;
     sum
 }
 
 // Writes the lines of the text from one number up to another.
-fn say(counts: &[u64; 32], from: usize, to: usize) {
+fn say(counts: &Counts, from: usize, to: usize) {
     let text = text();
     let mut line: usize = 0;
     let mut i: usize = 0;
@@ -102,7 +110,7 @@ fn say(counts: &[u64; 32], from: usize, to: usize) {
             if b < 128 {
                 io::write_all(STDOUT_FILENO, &text[i..i + 1]);
             } else {
-                io::print_decimal(STDOUT_FILENO, counts[(b % 32) as usize]);
+                io::print_decimal(STDOUT_FILENO, counts[(b % 64) as usize]);
             }
         }
         if b == 10 {
@@ -114,7 +122,7 @@ fn say(counts: &[u64; 32], from: usize, to: usize) {
 
 // One comparison, for a schedule or a list of steps, which is counted with its kind. The first difference of a topic is written out.
 pub(crate) fn compare(
-    counts: &mut [u64; 32],
+    counts: &mut Counts,
     topic: usize,
     kind: usize,
     item: u64,
@@ -137,7 +145,7 @@ pub(crate) fn compare(
     }
 }
 
-pub(crate) fn summary(counts: &[u64; 32]) {
+pub(crate) fn summary(counts: &Counts) {
     say(counts, 0, NONE);
     if counts[DIFFERENCES] == 0 {
         say(counts, NONE, SOME);

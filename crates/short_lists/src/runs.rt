@@ -40,7 +40,7 @@ fn answer_of(a: Answer) -> u64 {
 }
 
 // The run of a schedule of t cycles.
-pub(crate) fn compare_run(counts: &mut [u64; 32], ticket: &[u8], c: Case, plan: u64, t: u64) {
+pub(crate) fn compare_run(counts: &mut report::Counts, ticket: &[u8], c: Case, plan: u64, t: u64) {
     let b = bench::run(c, plan, t);
     let mut outcome: u64 = 0;
     if b.delivered == c.n {

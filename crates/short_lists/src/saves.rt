@@ -56,7 +56,7 @@ fn same_record(a: Saver, b: Saver) -> bool {
 const WRITTEN: u64 = 567382630219905;
 
 // A closing cycle with an empty pool: refusal 14 with the record as it was, no cycle, and nothing written.
-fn compare_refused(counts: &mut [u64; 32], c: Case, s: Saver)
+fn compare_refused(counts: &mut report::Counts, c: Case, s: Saver)
     requires { ⌜ Given s ⌝ }
 {
     let a = s.close();
@@ -115,7 +115,7 @@ fn save_list(c: Case) -> Saved
 }
 
 // The cycles made and noted against greedyWriting.
-pub(crate) fn compare_saver(counts: &mut [u64; 32], c: Case) {
+pub(crate) fn compare_saver(counts: &mut report::Counts, c: Case) {
     let s = save_list(c);
     let saver = s.saver;
     let made = saver.made.0 as u64;

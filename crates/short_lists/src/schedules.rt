@@ -11,7 +11,7 @@ use crate::tickets::Case;
 use crate::verdicts;
 
 // The search at one schedule, and what is compared of it. Answers its number of cycles if it is correct, and 65,535 if not.
-fn compare_one(counts: &mut [u64; 32], ticket: &[u8], c: Case, plan: u64) -> u64 {
+fn compare_one(counts: &mut report::Counts, ticket: &[u8], c: Case, plan: u64) -> u64 {
     let judged = rules::own_verdict(c, plan);
     verdicts::compare_verdict(counts, ticket, c, plan, judged);
     if c.n < 5 {
@@ -30,7 +30,7 @@ fn compare_one(counts: &mut [u64; 32], ticket: &[u8], c: Case, plan: u64) -> u64
 }
 
 // All schedules with cycles from 0 to n; no order of the frames is assumed. Answers the fewest cycles of a correct one.
-fn search(counts: &mut [u64; 32], ticket: &[u8], c: Case) -> u64 {
+fn search(counts: &mut report::Counts, ticket: &[u8], c: Case) -> u64 {
     let total = lists::how_many(c.n, c.n);
     let mut fewest: u64 = 65535;
     let mut number: u64 = 0;
@@ -46,7 +46,7 @@ fn search(counts: &mut [u64; 32], ticket: &[u8], c: Case) -> u64 {
 
 // For a read or a save of up to 5 frames: T against the fewest cycles of a correct schedule; the plan is a correct schedule, with T as its
 // largest cycle; and its run.
-pub(crate) fn compare_fewest(counts: &mut [u64; 32], ticket: &[u8], c: Case, plan: u64) {
+pub(crate) fn compare_fewest(counts: &mut report::Counts, ticket: &[u8], c: Case, plan: u64) {
     if (5 < c.n) | (c.mode == tickets::SAVE_AND_KEEP) {
         return;
     }

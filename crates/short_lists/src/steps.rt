@@ -48,7 +48,7 @@ fn unlike(b: Bench, cards: u64, d: Dock, memory: [u8; 8]) -> u64 {
 // any card has read in this cycle, frames handed over, cycles ended, frames held. Answers the cycles needed, and 65,535 where not everything
 // is handed over.
 fn compare_docks(
-    counts: &mut [u64; 32],
+    counts: &mut report::Counts,
     c: Case,
     steps: u64,
     b: Bench,
@@ -88,7 +88,7 @@ fn compare_docks(
 // the lists.
 fn explore(
     left: u64,
-    counts: &mut [u64; 32],
+    counts: &mut report::Counts,
     c: Case,
     steps: u64,
     b: Bench,
@@ -127,7 +127,7 @@ fn explore(
 
 // All lists of steps for a read of 1 to 3 frames, and their fewest cycles against the planner's T. With up to 8 steps, 7 for 3 frames, a read
 // of each and the ends of up to n cycles fit, and no T is above n: so T is reached.
-pub(crate) fn compare_all(counts: &mut [u64; 32], ticket: &[u8], c: Case, plan: u64) {
+pub(crate) fn compare_all(counts: &mut report::Counts, ticket: &[u8], c: Case, plan: u64) {
     if (c.mode != tickets::READ) | (c.n == 0) | (3 < c.n) {
         return;
     }

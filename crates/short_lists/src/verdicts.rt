@@ -48,7 +48,7 @@ fn wanted(c: Case, plan: u64, judged: Judged, t: u64) -> u64 {
 }
 
 pub(crate) fn compare_verdict(
-    counts: &mut [u64; 32],
+    counts: &mut report::Counts,
     ticket: &[u8],
     c: Case,
     plan: u64,
@@ -86,7 +86,7 @@ fn late_cycles(plan: u64, close: bool) -> [u16; 8] {
 // The verdict on a schedule of up to 4 frames with late cycles: only T is another. A difference is written out with the schedule as it was, and 1
 // behind 8 cycles where the late ones are close.
 pub(crate) fn compare_late(
-    counts: &mut [u64; 32],
+    counts: &mut report::Counts,
     ticket: &[u8],
     c: Case,
     plan: u64,

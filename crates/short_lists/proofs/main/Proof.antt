@@ -75,6 +75,10 @@ loop-less c = search needs
 loop-again : tie.Need-loop-again Inv-loop3 μ-loop3 Inv-loop2 μ-loop2 Inv-loop μ-loop
 loop-again c = search needs
 
+compare-all-requires :
+    tie.Need-compare-all-requires Inv-loop3 μ-loop3 Inv-loop2 μ-loop2 Inv-loop μ-loop
+compare-all-requires c κs = search needs
+
 summary-requires : tie.Need-summary-requires Inv-loop3 μ-loop3 Inv-loop2 μ-loop2 Inv-loop μ-loop
 summary-requires c κs = search needs
 
@@ -108,5 +112,6 @@ main-spec =
     add-n
     loop-less
     loop-again
+    compare-all-requires
     summary-requires
     returns)
