@@ -5,13 +5,14 @@ use Prim.Native.Nat.{ℕ, _+_, _*_, _≤_, _<_}
 use mathlib.Core.Path.{_≡_, refl}
 use mathlib.Core.Bool.{true}
 use mathlib.Core.List.{List, [], _∷_, map}
-use lib.ListN.{length}
+use lib.ListN.{length, take}
 use Rattle.header.specs.declared.Header.{Header}
+use Rattle.ticket.specs.Seconds.{secondsOf}
 use Rattle.ticket.specs.Ticket.{accepted, parse}
-use Rattle.merged_lines.specs.Merge.{Frame, merge}
+use Rattle.merged_lines.specs.Merge.{Frame, frames, merge}
 use Rattle.merged_lines.proofs.Merging as merging
 use Rattle.join.specs.Cases.{answered, expected, cases}
-use Rattle.join.specs.Join.{joinable, CanJoin, joinOf, Answered}
+use Rattle.join.specs.Join.{joinedHeader, joinable, CanJoin, joinOf, Answered}
 use Rattle.join.specs.Numbers.{numbersOf}
 use Rattle.join.specs.Showing.{Showing}
 use Rattle.join.specs.declared.Answer.{Answer}
@@ -31,6 +32,16 @@ pub joined-bytes :
     (first second before after : List ℕ) (n : ℕ) → Answered (joinOf first second) before after (Joined n)
     → (g h : Header) (a b : List ℕ) → parse first ≡ accepted g a → parse second ≡ accepted h b → n ≡ 15 + 11 * (length a + length b)
 joined-bytes first second before after n call = showings.joined-bytes first second before after (Joined n) call refl
+
+-- The reader accepts the bytes of a joined ticket with exactly the merged values, cards and seconds.
+pub joined-values :
+    (first second before after : List ℕ) (n : ℕ) → Answered (joinOf first second) before after (Joined n)
+    → (g h : Header) (a b : List ℕ) → parse first ≡ accepted g a → parse second ≡ accepted h b
+    → (whole : List Frame) → whole ≡ merge (frames a (secondsOf first)) (frames b (secondsOf second))
+    → (parse (take n after) ≡ accepted (joinedHeader g (length whole)) (map (λ f. f .card) whole))
+    × (secondsOf (take n after) ≡ map (λ f. f .second) whole)
+joined-values first second before after n call g h a b e f whole is =
+    rw is (showings.joined-values first second before after (Joined n) call refl g h a b e f)
 
 -- Two accepted tickets are not refused by 18 exactly when both are edition 02 reads, with the same cards and pool.
 pub joinable-exactly : (g h : Header) → (joinable g h ≡ true → CanJoin g h) × (CanJoin g h → joinable g h ≡ true)

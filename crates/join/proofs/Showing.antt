@@ -146,6 +146,11 @@ module _
         many second h b f (second-timed g h its),
       )
 
+  pub joined-values :
+      (parse (take (numbersOf r .bytes) after) ≡ accepted (joinedHeader g (length (merge A B))) (map (λ f. f .card) (merge A B)))
+      × (secondsOf (take (numbersOf r .bytes) after) ≡ map (λ f. f .second) (merge A B))
+  joined-values = (rw holds-text (again .0), rw holds-text (again .1))
+
   pub showing :
       (c : List ℕ)
       × (parse (take (numbersOf r .bytes) after) ≡ accepted (joinedHeader g (length a + length b)) c)
