@@ -2,6 +2,7 @@
 -- Assumes nothing.
 use Prim.Native.Nat.{ℕ, _≤_}
 use mathlib.Core.Path.{_≡_, refl, sym, ap, _∙_}
+use mathlib.Core.Logic.{_≢_}
 use mathlib.Core.Bool.{cond}
 use native.Mathlib.Omega.{arith}
 use lib.Dec.{eqb}
@@ -10,12 +11,24 @@ use Rattle.schedule.specs.Verdict as theory
 use Rattle.checker.specs.Check.{atFault, answerOf}
 use Rattle.checker.specs.Numbers.{Numbers, validNumber, faultNumber, faultAt, numbersOf}
 use Rattle.checker.specs.declared.Verdict.{Verdict}
+use Rattle.checker.specs.declared.Verdict.the-variants.{Valid, NoCycle, SharedCard, Overfull, Refused}
 
 abbrev pub verdictNumber : Verdict → ℕ
 verdictNumber r = numbersOf r .verdict
 
 abbrev pub positionNumber : Verdict → ℕ
 positionNumber r = numbersOf r .position .0
+
+abbrev pub peakNumber : Verdict → ℕ
+peakNumber r = numbersOf r .peak
+
+-- only a valid plan has a peak
+pub no-peak : (r : Verdict) → verdictNumber r ≢ validNumber → peakNumber r ≡ 0
+no-peak (Valid T p) n = absurd (n refl)
+no-peak (NoCycle p) n = refl
+no-peak (SharedCard p) n = refl
+no-peak (Overfull p) n = refl
+no-peak (Refused k) n = refl
 
 -- valid is 1 and a refusal has 0, so that neither is a fault
 pub from-two : (f : Fault) → 2 ≤ faultNumber f

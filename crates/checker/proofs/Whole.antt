@@ -11,10 +11,9 @@ use lib.ListN.{length}
 use borrow.Author.Tests.{leb-true}
 use Rattle.counting.proofs.Lists.{le-largest}
 use Rattle.schedule.specs.Schedule.{cyclesIn, Correct}
-use Rattle.schedule.specs.Dock.{emptyDock}
-use Rattle.schedule.specs.Drive.{peak, stepsOf}
+use Rattle.schedule.specs.Drive.{buffersNeeded}
 use Rattle.schedule.specs.Verdict.{Fault, noCycle, sharedCard, overfull, valid, judgeFrom, verdictOnRead, verdictOnSave}
-use Rattle.schedule.proofs.Peak.{peak-closed}
+use Rattle.schedule.proofs.Main.{peak-closed}
 use Rattle.schedule.proofs.Exact.{valid-correct, otherwise}
 use Rattle.header.specs.Limits.{maxFrames}
 use Rattle.pool_counts.specs.Backlog.{backlogOf}
@@ -75,5 +74,5 @@ module _ {cards cycles : List ℕ} (f : Checking cards cycles) where
     judged true {m} {v} {p = p} d v-is p-is =
         completed-verdict true m cards cycles v top p (cyclesIn cycles) 0 (f .same-length) v-is (λ ok. (top-is, p-is (all-roomy d ok)))
     judged false {m} {v} {p = p} d v-is p-is =
-        completed-verdict false m cards cycles v top p (cyclesIn cycles) (peak (length cards) cards (stepsOf cycles) emptyDock) (f .same-length) v-is
-        (λ ok. (top-is, p-is (all-roomy d ok) ∙ sym (peak-closed m cards cycles ok)))
+        completed-verdict false m cards cycles v top p (cyclesIn cycles) (buffersNeeded cards cycles) (f .same-length) v-is
+        (λ ok. (top-is, p-is (all-roomy d ok) ∙ sym (peak-closed cards cycles (ok .proper))))

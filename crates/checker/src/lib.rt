@@ -14,8 +14,8 @@ use counting::Position;
 use header::Header;
 use header::limits;
 
-// A valid plan has T and, for a read, the peak of its run on a dock with a buffer for every frame. Otherwise the lowest position at fault
-// is named with the first of its faults; or the call is refused.
+// A valid plan has T and, for a read, the peak of its run on a dock with a buffer for every frame: the buffers that it needs, so that it is valid
+// for every pool from there on. Otherwise the lowest position at fault is named with the first of its faults; or the call is refused.
 pub enum Verdict {
     Valid(Cycle, u16),
     NoCycle(Position),
@@ -39,12 +39,12 @@ fn check_list(h: Header, card: &[u8], plan: &[u16]) -> Verdict
     verdicts::verdict(h.mode == limits::MODE_SAVE, &card[..n], plan, h.pool)
 }
 
-// Checks a plan for a ticket. `exact` is demand 2's last sentence, that a plan is called valid exactly when it meets the paper's conditions,
-// and that a fault is named as document 01 says: the lowest position at fault, and of its faults the first.
+// Checks a plan for a ticket. `exact` is demand 2's last sentence, that a plan is called valid exactly when it meets the paper's conditions;
+// that a fault is named as document 01 says: the lowest position at fault, and of its faults the first; and what the peak tells (request 2026-05).
 pub fn check(ticket: &[u8], plan: &[u16]) -> Verdict
     ensures answer { λ r. ⌜ r ≡ checkOf (parse (now (ticket .entry))) (now (plan .entry)) ⌝ }
     ensures numbers { λ r. ⌜ numbersOf r ≡ numbersOf (checkOf (parse (now (ticket .entry))) (now (plan .entry))) ⌝ }
-    ensures exact { λ r. ⌜ Exact (now (ticket .entry)) (now (plan .entry)) (numbersOf r .verdict) (numbersOf r .position .0) ⌝ }
+    ensures exact { λ r. ⌜ Exact (now (ticket .entry)) (now (plan .entry)) (numbersOf r .verdict) (numbersOf r .position .0) (numbersOf r .peak) ⌝ }
 {
     let mut card = [0u8; limits::FRAMES];
     let answer = ticket::read(ticket, &mut card);

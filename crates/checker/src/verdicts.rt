@@ -31,7 +31,7 @@ fn complete(found: Found, top: Cycle, peak: u16) -> Verdict
 fn pools(save: bool, low: bool, plan: &[u16], top: Cycle, m: u16) -> Room
     requires { ⌜ (length (now plan) ≤ maxFrames) × (1 ≤ m) × (low ≡ true → Low (now plan) (top .0)) ⌝ }
     ensures roomy { λ r. ⌜ r .roomy ≡ roomyOf save m (now (plan .entry)) ⌝ }
-    ensures peak { λ r. ⌜ (r .roomy ≡ length (now (plan .entry)) → r .before ≡ peakOf save (now (plan .entry))) ⌝ }
+    ensures peak { λ r. ⌜ (r .roomy ≡ length (now (plan .entry)) → r .peak ≡ peakOf save (now (plan .entry))) ⌝ }
 {
     if low {
         return pool_table::pools(save, plan, top, m);
@@ -49,5 +49,5 @@ pub(crate) fn verdict(save: bool, cards: &[u8], plan: &[u16], m: u16) -> Verdict
     let room = pools(save, low, plan, top, m);
     let clear = plan_faults::clear(save, low, cards, plan, m, room.roomy);
     let found = plan_faults::first_fault(save, cards, plan, m, clear, room.roomy);
-    complete(found, top, room.before)
+    complete(found, top, room.peak)
 }

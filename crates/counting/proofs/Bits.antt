@@ -1,6 +1,6 @@
 -- Laws of tests and of `bit`, the number 1 or 0 that a test counts as.
 -- Assumes nothing.
-use Prim.Native.Nat.{ℕ, zero, suc, _+_, _≤_, _<_, zero-le, _-_}
+use Prim.Native.Nat.{ℕ, zero, suc, _+_, _≤_, _<_, zero-le}
 use mathlib.Core.Path.{_≡_, refl, ap, _∙_, sym}
 use mathlib.Core.Bool.{Bool, true, false, not, _&&_, _||_, cond}
 use native.Mathlib.Omega.{arith}
@@ -107,13 +107,6 @@ both-after x c =
     elim (decLt x c) [
       | yes l ↦ rw (lt-ltb x c l, lt-ltb (suc x) (suc c) (omega arith))
       | no l ↦ rw (le-ltb x c (omega arith), le-ltb (suc x) (suc c) (omega arith))
-    ]
-
-pub up-to-the-one-before : (x c : ℕ) → 1 ≤ c → leb x (c - 1) ≡ ltb x c
-up-to-the-one-before x c l =
-    elim (decLt x c) [
-      | yes h ↦ le-leb x (c - 1) (omega arith) ∙ sym (lt-ltb x c h)
-      | no h ↦ lt-leb x (c - 1) (omega arith) ∙ sym (le-ltb x c (omega arith))
     ]
 
 pub leb-none : (n : ℕ) → leb n 0 ≡ eqb n 0

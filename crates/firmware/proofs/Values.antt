@@ -1,5 +1,5 @@
--- What a call answers depends on what its ticket is read as, its seconds among it, and on nothing else of the text. Calls that do not tell the edition depend on
--- mode, cards, pool and list alone.
+-- What a call answers depends on what its ticket is read as, its seconds among it, and on nothing else of the text. Calls that do not tell the
+-- edition depend on mode, cards, pool and list alone.
 -- Assumes nothing.
 use Prim.Native.Nat.{ℕ, _+_, _*_}
 use mathlib.Core.Bool.{false, true≢false}

@@ -203,14 +203,16 @@ cases =
     ∷ parseTicket (48 ∷ 49 ∷ 48 ∷ 48 ∷ 49 ∷ 100 ∷ 48 ∷ 49 ∷ 99 ∷ 97 ∷ 48 ∷ 48 ∷ 48 ∷ 48 ∷ 10 ∷ []) gives ticket 0 1 0 29 458 0
     ∷ parseTicket (48 ∷ 49 ∷ 48 ∷ 48 ∷ 48 ∷ 50 ∷ 48 ∷ 48 ∷ 48 ∷ 103 ∷ 48 ∷ 48 ∷ 48 ∷ 48 ∷ 10 ∷ []) gives ticket 1 0 0 0 0 0
     -- the verdicts: 1 valid, 2 cycle 0, 3 a shared card, 4 too many in the pool
-    ∷ checkPlan read001 (1 ∷ 2 ∷ 1 ∷ []) gives verdict 0 1 0 2 1
+    ∷ checkPlan read001 (1 ∷ 2 ∷ 1 ∷ []) gives verdict 0 1 0 2 2
+    ∷ checkPlan read001 (1 ∷ 2 ∷ 2 ∷ []) gives verdict 0 1 0 2 2
     ∷ checkPlan save001 (1 ∷ 2 ∷ 2 ∷ []) gives verdict 0 1 0 2 0
     ∷ checkPlan read001 (1 ∷ 2 ∷ 0 ∷ []) gives verdict 0 2 2 0 0
     ∷ checkPlan read001 (1 ∷ 1 ∷ 2 ∷ []) gives verdict 0 3 1 0 0
     ∷ checkPlan read001 (2 ∷ 1 ∷ 2 ∷ []) gives verdict 0 4 0 0 0
-    -- runs: complete, against the rules, and one that leaves a frame out
-    ∷ runPlan read001 (1 ∷ 2 ∷ 1 ∷ []) gives run 0 false true 3 2 2 1
+    -- runs: complete; broken off at a read, and at an end, which finds 3 held; and one that leaves a frame out
+    ∷ runPlan read001 (1 ∷ 2 ∷ 1 ∷ []) gives run 0 false true 3 2 2 2
     ∷ runPlan read001 (1 ∷ 1 ∷ 2 ∷ []) gives run 0 true false 0 0 0 0
+    ∷ runPlan read001 (2 ∷ 1 ∷ 2 ∷ []) gives run 0 true false 0 1 0 3
     ∷ runPlan read001 (0 ∷ 1 ∷ 2 ∷ []) gives run 0 false false 0 2 0 2
     -- a saver: new; a frame on card 1; and the closing cycle that writes it
     ∷ newSaver 2 2 gives saved 0 0 nothing (idle 2 2 0 0 false)

@@ -11,11 +11,11 @@ use plain_answers::checks;
 use plain_answers::checks::CheckAnswer;
 use plain_answers::checks::RunAnswer;
 
-// `exact` is demand 2's last sentence: a plan is called valid exactly when it meets the paper's conditions.
+// `exact` is demand 2's last sentence: a plan is called valid exactly when it meets the paper's conditions; and what the peak tells (request 2026-05).
 #[no_mangle]
 pub extern "C" fn dockplan_check(ticket: &[u8], plan: &[u16]) -> CheckAnswer
     ensures answer { λ r. ⌜ r ≡ checkAnswer (numbersOf (checkOf (parse (now (ticket .entry))) (now (plan .entry)))) ⌝ }
-    ensures exact { λ r. ⌜ Exact (now (ticket .entry)) (now (plan .entry)) (r .verdict) (r .position .0) ⌝ }
+    ensures exact { λ r. ⌜ Exact (now (ticket .entry)) (now (plan .entry)) (r .verdict) (r .position .0) (r .peak) ⌝ }
 {
     checks::check_answer(checker::check(ticket, plan))
 }

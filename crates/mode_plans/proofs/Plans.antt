@@ -55,10 +55,10 @@ module _ (mode m : ℕ) (cards : List ℕ) where
   unfolding saveAndKeep
   plan-length pool =
       elim (ℕ-discrete mode modeRead) [
-        | yes e ↦ rw (plan-read e) (read-correct m cards pool .one-each)
+        | yes e ↦ rw (plan-read e) (read-correct m cards pool .proper .one-each)
         | no n ↦
             elim (ℕ-discrete mode modeSave) [
-              | yes e ↦ rw (plan-save e) (save-correct m cards pool .one-each)
+              | yes e ↦ rw (plan-save e) (save-correct m cards pool .proper .one-each)
               | no k ↦ rw (plan-keep n k) (saved-length (length cards))
             ]
       ]
@@ -74,7 +74,7 @@ module _ {m : ℕ} {cards before after : List ℕ} {made all : ℕ} (f : Asked m
         buffer =
             e
             ∙ rw (p .filled, p .kept)
-            (onFirst-written (asOf made) (length cards) (greedyWriting m cards .cycles) before (save-correct m cards (f .pool) .one-each));
+            (onFirst-written (asOf made) (length cards) (greedyWriting m cards .cycles) before (save-correct m cards (f .pool) .proper .one-each));
         length-is = p .made-is;
       }
 
@@ -83,7 +83,7 @@ module _ {m : ℕ} {cards before after : List ℕ} {made all : ℕ} (f : Asked m
     back = greedyWriting m (reverse cards) .cycles
 
     back-length : length back ≡ length cards
-    back-length = save-correct m (reverse cards) (f .pool) .one-each ∙ length-reverse cards
+    back-length = save-correct m (reverse cards) (f .pool) .proper .one-each ∙ length-reverse cards
 
     abbrev turn : ℕ → ℕ
     turn c = all - c + 1

@@ -116,4 +116,4 @@ module _ {save : Bool} {m : ℕ} {cards cycles : List ℕ} {c r : ℕ} (d : Deci
             (false≢true (sym (no-card-fault cards cycles c (good c l .a-cycle) (good c l .alone)) ∙ d .card-fault no-pool-fault l))
         | no l ↦ omega arith
       ] in
-      omega (arith, no-pool-fault, no-card-left, d .roomy-inside, ok .one-each)
+      omega (arith, no-pool-fault, no-card-left, d .roomy-inside, ok .proper .one-each)

@@ -11,12 +11,11 @@ use borrow.Author.Tests.{eq-eqb, ne-eqb}
 use Rattle.schedule.specs.Schedule.{cycleOf}
 use Rattle.schedule.specs.Dock.{Step, readFrame, endCycle, emptyDock, run}
 use Rattle.schedule.specs.Drive.{readsOf, stepsTo}
-use Rattle.schedule.proofs.Peak.{read-ends-none}
 use Rattle.run_progress.specs.declared.Progress.{Progress}
 use Rattle.dock.specs.State.{mostCycles}
 use Rattle.run_progress.specs.Progress.{Tracked}
 use Rattle.plan_run.specs.Cycles.{lastCycle, Reached, readsTo, ReadsMade, CyclesMade, NoneBetween, Next}
-use Rattle.run_progress.proofs.Tracked.{run-snoc, step-counted}
+use Rattle.run_progress.proofs.Tracked.{run-snoc, step-counted, read-ends-none}
 
 module _ {m : ℕ} {cards : List ℕ} {steps : List Step} {t : ℕ} {p : Progress} {memory : List ℕ} (v : Reached m cards steps t p memory) where
   module _ (low : t < mostCycles) where
@@ -28,7 +27,7 @@ module _ {m : ℕ} {cards : List ℕ} {steps : List Step} {t : ℕ} {p : Progres
     one-read {i} w =
         record {
           tracks = w .follows m cards steps (v .tracks) counts;
-          ends = rw (run-snoc m cards steps (readFrame i) emptyDock, read-ends-none m cards i (run m cards steps emptyDock)) (v .ends);
+          ends = rw (run-snoc m cards steps (readFrame i) emptyDock, read-ends-none m cards (run m cards steps emptyDock) i) (v .ends);
         }
 
     pub one-end : {r : Progress} {after : List ℕ} → Tracked p endCycle memory r after → Reached m cards (steps ++ (endCycle ∷ [])) (suc t) r after

@@ -38,7 +38,7 @@ ranOf (accepted h cards) cycles = cond (eqb (length cycles) (length cards)) (Ran
 ranOf (refused k) cycles = Refused k
 
 -- What the numbers of an answer say of a plan that does what demand 3 asks of a read plan of T cycles, for a pool of m and so many frames: it
--- breaks no rule, hands over everything in exactly T cycles, and does not hold more than the pool after a cycle.
+-- breaks no rule, hands over everything in exactly T cycles, and never holds more than the pool right after the reads of a cycle.
 pub record Finished (m frames T : ℕ) (n : Numbers) : Type 0 where
   pub not-refused : n .refusal ≡ 0
   pub breaks-no-rule : n .broken ≡ false

@@ -57,13 +57,13 @@ module _ (t before after : List ℕ) (r : Answer) (a : Answered (parse t) before
             let p = plan-read (h .mode) (h .pool) cards mode in
             let pool = accepted-fits t h cards e .pool .0 in
             so-of-call h cards before after r (rw e at a) room (ReadDemand (h .pool) cards)
-            (rw p (read-correct (h .pool) cards pool .one-each))
+            (rw p (read-correct (h .pool) cards pool .proper .one-each))
             (rw p (read-demand (h .pool) cards pool));
         save-plan = λ h cards e mode room.
             let p = plan-save (h .mode) (h .pool) cards mode in
             let pool = accepted-fits t h cards e .pool .0 in
             so-of-call h cards before after r (rw e at a) room (SaveDemand (h .pool) cards)
-            (rw p (save-correct (h .pool) cards pool .one-each))
+            (rw p (save-correct (h .pool) cards pool .proper .one-each))
             (rw p (save-demand (h .pool) cards pool));
       }
 

@@ -1,43 +1,32 @@
 -- Frames whose count is no larger than another's: in a read one that is not ahead of all earlier frames, in a save one that is not behind all later
 -- ones. They need no count of their own.
 -- Assumes nothing.
-use Prim.Native.Nat.{ℕ, suc, _≤_, _<_}
+use Prim.Native.Nat.{ℕ, _≤_, _<_}
 use mathlib.Core.Bool.{_&&_}
 use mathlib.Core.List.{List}
 use native.Mathlib.Omega.{arith}
 use lib.Dec.{leb, ltb}
 use lib.ListN.{length}
 use borrow.Author.Tests.{lt-ltb, le-leb, ltb-true, leb-true}
-use Rattle.counting.specs.Count.{bit, howMany}
+use Rattle.counting.specs.Count.{bit}
 use Rattle.counting.proofs.Bits.{and-left, and-right, bit-mono}
 use Rattle.counting.proofs.Sums.{sum-mono, sum-longer}
 use Rattle.schedule.specs.Schedule.{cycleOf, oBacklog, iBacklog}
-use Rattle.schedule.specs.Closed.{readBefore}
 
 module _ (cycles : List ℕ) where
   abbrev cyc : ℕ → ℕ
   cyc = cycleOf cycles
 
-  -- how many frames after frame i have a cycle of which g is up to i's: with g the number itself, or one more
-  abbrev later : (ℕ → ℕ) → ℕ → ℕ
-  later g i = howMany (length cycles) (λ k. ltb i k && leb (g (cyc k)) (cyc i))
-
   -- a frame after one with the same or a later cycle
-  covered : (g : ℕ → ℕ) (i j : ℕ) → j < i → cyc i ≤ cyc j → later g i ≤ later g j
-  covered g i j l h =
-      sum-mono (length cycles) (λ k. bit (ltb i k && leb (g (cyc k)) (cyc i))) (λ k. bit (ltb j k && leb (g (cyc k)) (cyc j)))
-      (λ k inside.
-      bit-mono (ltb i k && leb (g (cyc k)) (cyc i)) (ltb j k && leb (g (cyc k)) (cyc j))
-      (λ e.
-      let a : i < k = ltb-true i k (and-left (ltb i k) (leb (g (cyc k)) (cyc i)) e) in
-      let b : g (cyc k) ≤ cyc i = leb-true (g (cyc k)) (cyc i) (and-right (ltb i k) (leb (g (cyc k)) (cyc i)) e) in
-      rw (lt-ltb j k (omega arith), le-leb (g (cyc k)) (cyc j) (omega arith))))
-
   pub backlog-covered : (i j : ℕ) → j < i → cyc i ≤ cyc j → iBacklog cycles i ≤ iBacklog cycles j
-  backlog-covered = covered (λ x. x)
-
-  pub before-covered : (i j : ℕ) → j < i → cyc i ≤ cyc j → readBefore cycles i ≤ readBefore cycles j
-  before-covered = covered suc
+  backlog-covered i j l h =
+      sum-mono (length cycles) (λ k. bit (ltb i k && leb (cyc k) (cyc i))) (λ k. bit (ltb j k && leb (cyc k) (cyc j)))
+      (λ k inside.
+      bit-mono (ltb i k && leb (cyc k) (cyc i)) (ltb j k && leb (cyc k) (cyc j))
+      (λ e.
+      let a : i < k = ltb-true i k (and-left (ltb i k) (leb (cyc k) (cyc i)) e) in
+      let b : cyc k ≤ cyc i = leb-true (cyc k) (cyc i) (and-right (ltb i k) (leb (cyc k) (cyc i)) e) in
+      rw (lt-ltb j k (omega arith), le-leb (cyc k) (cyc j) (omega arith))))
 
   -- a frame before one with the same or an earlier cycle
   pub save-covered : (i j : ℕ) → i < j → cyc j ≤ cyc i → oBacklog cycles i ≤ oBacklog cycles j

@@ -2,26 +2,23 @@
 -- Assumes nothing.
 use Prim.Native.Nat.{ℕ, suc, _+_, _-_, _≤_, _<_, min, max}
 use mathlib.Core.Path.{_≡_, refl, sym, ap, _∙_}
-use mathlib.Core.Bool.{Bool, true, false, _&&_, false≢true}
+use mathlib.Core.Bool.{Bool, true, false, false≢true}
 use mathlib.Core.List.{List}
 use native.Mathlib.Omega.{arith}
 use native.Mathlib.Numerals.{add-one}
 use native.Mathlib.Decide.{decLt, ℕ-discrete}
-use lib.Dec.{leb, ltb}
+use lib.Dec.{leb}
 use lib.ListN.{length, take, drop, length-take}
-use borrow.Author.Tests.{le-leb, lt-leb, leb-true, le-ltb}
-use Rattle.counting.specs.Count.{bit, tabulate, largest, least}
-use Rattle.counting.proofs.Sums.{sum-cong, sum-zero}
+use borrow.Author.Tests.{le-leb, lt-leb, leb-true}
+use Rattle.counting.specs.Count.{least}
 use Rattle.counting.proofs.Lists.{most-next, most-stays}
-use Rattle.counting.proofs.Bits.{bit-and-off, up-to-the-one-before}
 use Rattle.counting.proofs.Parts.{from-place}
 use Rattle.counting.proofs.Least.{least-found, least-none, least-le, before-least}
 use Rattle.schedule.specs.Schedule.{cycleOf, oBacklog, iBacklog}
-use Rattle.schedule.specs.Closed.{readBefore}
 use Rattle.pool_counts.specs.Backlog.{backlogOf, compared, countFirst, countUpTo, lookedAt}
-use Rattle.pool_counts.specs.Pools.{roomyOf, mostOf}
-use Rattle.pool_counts.proofs.Counting.{later-part, count-whole}
-use Rattle.pool_counts.proofs.Covered.{backlog-covered, before-covered, save-covered}
+use Rattle.pool_counts.specs.Pools.{roomyOf, buffersFor, peakAmong}
+use Rattle.pool_counts.proofs.Counting.{count-whole}
+use Rattle.pool_counts.proofs.Covered.{backlog-covered, save-covered}
 use Rattle.pool_counts.proofs.Ceilings.{Ceiling, ceiling-first, ceiling-up, covering, ceiling-stays}
 
 -- the rule's frames are those that the code compares
@@ -74,100 +71,41 @@ module _ {save : Bool} {m : ℕ} {cycles : List ℕ} {i : ℕ} (v : Roomy save m
   pub roomy-all : length cycles ≤ i → length cycles ≡ roomyOf save m cycles
   roomy-all h = sym (least-none (length cycles) (λ j. leb m (backlogOf save cycles j)) (λ j l. not-overfull j (omega arith)))
 
--- a read, i frames with room, the largest cycle of which is under the ceiling
-pub record ReadTurn (m : ℕ) (cycles : List ℕ) (i ceiling : ℕ) : Type 0 where
+-- a read, i frames with room, the largest cycle of which is under the ceiling, and the most buffers that one of them needs
+pub record ReadTurn (m : ℕ) (cycles : List ℕ) (i ceiling peak : ℕ) : Type 0 where
   pub roomy : Roomy false m cycles i
   pub heights : Ceiling cycles i ceiling
+  pub so-far : peak ≡ peakAmong cycles i
 
-pub read-first : (m : ℕ) (cycles : List ℕ) → ReadTurn m cycles 0 0
-read-first m cycles = record { roomy = roomy-first false m cycles; heights = ceiling-first cycles }
+pub read-first : (m : ℕ) (cycles : List ℕ) → ReadTurn m cycles 0 0 0
+read-first m cycles = record { roomy = roomy-first false m cycles; heights = ceiling-first cycles; so-far = refl }
 
-module _ {m : ℕ} {cycles : List ℕ} {i ceiling : ℕ} (v : ReadTurn m cycles i ceiling) (l : i < length cycles) {c : ℕ} (c-is : c ≡ cycleOf cycles i) where
-  -- a frame ahead of all earlier ones, which is counted
-  pub read-ahead : ceiling ≤ c → iBacklog cycles i < m → ReadTurn m cycles (i + 1) (c + 1)
-  read-ahead h g = record { roomy = roomy-next (v .roomy) l g; heights = ceiling-up (v .heights) c-is h }
-
-  -- a frame that is not, and has room because an earlier one has
-  pub read-covered : c < ceiling → ReadTurn m cycles (i + 1) ceiling
-  read-covered h =
-      let r = covering (v .heights) c-is h in
-      record {
-        roomy = roomy-next (v .roomy) l (omega (arith, v .roomy .each (r .0) (r .1), backlog-covered cycles i (r .0) (r .1) (r .2)));
-        heights = ceiling-stays (v .heights) c-is h;
-      }
-
--- nothing is read before cycle 0
-none-before : (cycles : List ℕ) (i : ℕ) → cycleOf cycles i ≡ 0 → readBefore cycles i ≡ 0
-none-before cycles i e =
-    sum-cong (length cycles) (λ j. bit (ltb i j && ltb (cycleOf cycles j) (cycleOf cycles i))) (λ j. 0)
-    (λ j l. bit-and-off (ltb i j) (ltb (cycleOf cycles j) (cycleOf cycles i)) (le-ltb (cycleOf cycles j) (cycleOf cycles i) (omega arith)))
-    ∙ sum-zero (length cycles)
-
--- the largest number of frames that are read before one of the first i; the ceiling is at least 1, so that cycle 0 is never ahead
-pub record Peak (cycles : List ℕ) (i ceiling most : ℕ) : Type 0 where
-  pub inside : i ≤ length cycles
-  pub from-one : 1 ≤ ceiling
-  pub under : (j : ℕ) → j < i → cycleOf cycles j < ceiling
-  pub met : 2 ≤ ceiling → (j : ℕ) × (j < i) × (suc (cycleOf cycles j) ≡ ceiling)
-  pub so-far : most ≡ largest (tabulate i (readBefore cycles))
-
-pub peak-first : (cycles : List ℕ) → Peak cycles 0 1 0
-peak-first cycles =
-    record {
-      inside = omega arith;
-      from-one = omega arith;
-      under = λ j l. absurd (omega arith);
-      met = λ l. absurd (omega arith);
-      so-far = refl;
-    }
-
-module _ {cycles : List ℕ} {i ceiling most : ℕ} (v : Peak cycles i ceiling most) where
+module _ {m : ℕ} {cycles : List ℕ} {i ceiling peak : ℕ} (v : ReadTurn m cycles i ceiling peak) where
   module _ (l : i < length cycles) {c : ℕ} (c-is : c ≡ cycleOf cycles i) where
-    module _ (h : ceiling ≤ c) where
-      pub has-cycle : 1 ≤ cycleOf cycles i
-      has-cycle = omega (arith, v .from-one)
-
-      pub peak-ahead :
-          (others : List ℕ) → others ≡ take (length cycles - (i + 1)) (drop (i + 1) cycles) → {b x : ℕ}
-          → x ≡ countFirst false (cycleOf cycles i - 1) others (length others) → b ≡ max most x → Peak cycles (i + 1) (c + 1) b
-      peak-ahead others same {b} {x} x-is b-is =
-          let before : x ≡ readBefore cycles i =
-          x-is
-          ∙ ap (λ o. countFirst false (cycleOf cycles i - 1) o (length o)) (same ∙ compared-read false cycles i refl)
-          ∙ sym (later-part cycles i (cycleOf cycles i - 1) l)
-          ∙ sum-cong (length cycles) (λ j. bit (ltb i j && leb (cycleOf cycles j) (cycleOf cycles i - 1)))
-          (λ j. bit (ltb i j && ltb (cycleOf cycles j) (cycleOf cycles i)))
-          (λ j k. ap (λ t. bit (ltb i j && t)) (up-to-the-one-before (cycleOf cycles j) (cycleOf cycles i) has-cycle)) in
-          record {
-            inside = omega arith;
-            from-one = omega arith;
-            under = λ j k. elim (ℕ-discrete j i) [ yes e ↦ rw e (omega arith) | no e ↦ omega (arith, v .under j (omega arith)) ];
-            met = λ k. (i, omega arith, omega arith);
-            so-far = omega (arith, v .so-far, b-is, before, most-next (readBefore cycles) i);
-          }
-
-    -- a frame that is not ahead has no more read before it than an earlier one, or none
-    stays : c < ceiling → most ≡ largest (tabulate (i + 1) (readBefore cycles))
-    stays h =
-        elim (ℕ-discrete ceiling 1) [
-          | yes e ↦ omega (arith, v .so-far, most-next (readBefore cycles) i, none-before cycles i (omega arith))
-          | no e ↦
-              (let r = v .met (omega (arith, v .from-one)) in
-              v .so-far ∙ most-stays (readBefore cycles) i (r .0) (r .1) (before-covered cycles i (r .0) (r .1) (omega (arith, r .2))))
-        ]
-
-    pub peak-covered : c < ceiling → Peak cycles (i + 1) ceiling most
-    peak-covered h =
+    -- a frame ahead of all earlier ones, which is counted
+    pub read-ahead : ceiling ≤ c → iBacklog cycles i < m → {p : ℕ} → p ≡ max peak (buffersFor cycles i) → ReadTurn m cycles (i + 1) (c + 1) p
+    read-ahead h g p-is =
         record {
-          inside = omega arith;
-          from-one = v .from-one;
-          under = λ j k. elim (ℕ-discrete j i) [ yes e ↦ rw e (omega arith) | no e ↦ v .under j (omega arith) ];
-          met = λ k. let r = v .met k in (r .0, omega (arith, r .1), r .2);
-          so-far = stays h;
+          roomy = roomy-next (v .roomy) l g;
+          heights = ceiling-up (v .heights) c-is h;
+          so-far = omega (arith, p-is, v .so-far, most-next (buffersFor cycles) i);
         }
 
-  pub peak-all : length cycles ≤ i → most ≡ mostOf readBefore cycles
-  peak-all l = let e : i ≡ length cycles = omega (arith, v .inside) in rw (← e) (v .so-far)
+    -- a frame that is not: an earlier one needs as many buffers, and has room
+    pub read-covered : c < ceiling → ReadTurn m cycles (i + 1) ceiling peak
+    read-covered h =
+        let r = covering (v .heights) c-is h in
+        let fewer : iBacklog cycles i ≤ iBacklog cycles (r .0) = backlog-covered cycles i (r .0) (r .1) (r .2) in
+        record {
+          roomy = roomy-next (v .roomy) l (omega (arith, v .roomy .each (r .0) (r .1), fewer));
+          heights = ceiling-stays (v .heights) c-is h;
+          so-far = v .so-far ∙ most-stays (buffersFor cycles) i (r .0) (r .1) (omega (arith, fewer));
+        }
+
+  pub read-all : length cycles ≤ i → (length cycles ≡ roomyOf false m cycles) × (peak ≡ peakAmong cycles (length cycles))
+  read-all l =
+      let e : i ≡ length cycles = omega (arith, v .roomy .inside) in
+      (roomy-all (v .roomy) l, rw (← e) (v .so-far))
 
 -- a save, from the last frame to the first: those from i on have room, and `floor` is their smallest cycle, `past` where there is none
 pub record SaveTurn (past m : ℕ) (cycles : List ℕ) (i floor : ℕ) : Type 0 where

@@ -23,7 +23,7 @@ fn counts(save: bool, own: u16, c: u16) -> bool
 }
 
 // How many of the cycles count.
-pub(crate) fn count_all(save: bool, own: Cycle, others: &[u16]) -> u16
+fn count_all(save: bool, own: Cycle, others: &[u16]) -> u16
     requires { ⌜ length (now others) ≤ maxFrames ⌝ }
     ensures { λ r. ⌜ r ≡ countFirst save (own .0) (now (others .entry)) (length (now (others .entry))) ⌝ }
 {

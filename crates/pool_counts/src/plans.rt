@@ -5,12 +5,10 @@ ghost use mathlib.Core.Bool.{true, false};
 ghost use Prim.Native.Nat.{_≤_, _<_};
 ghost use lib.Dec.{leb};
 ghost use lib.ListN.{length};
-ghost use Rattle.schedule.specs.Closed.{readBefore};
 ghost use Rattle.header.specs.Limits.{maxFrames};
-ghost use Rattle.pool_counts.specs.Pools.{roomyOf, pastAll, mostOf, peakOf};
+ghost use Rattle.pool_counts.specs.Pools.{roomyOf, pastAll, peakAmong, peakOf};
 use crate::Room;
 use crate::backlog;
-use counting::Cycle;
 
 // A number after all cycles.
 const PAST_ALL: usize = 65536;
@@ -22,15 +20,18 @@ fn place(cycle: u16) -> usize
     cycle as usize
 }
 
-// A read: how many frames have room, up to the first that has not. A frame that is not ahead of all earlier ones has no larger count than one of
-// these, and is not counted.
+// A read: how many frames have room, up to the first that has not, and the most buffers that one of them needs. A frame that is not ahead of all
+// earlier ones has no larger count than one of these, and is not counted.
 //   ceiling   one more than the largest cycle so far, 0 before the first frame
-fn roomy_read(plan: &[u16], m: u16) -> usize
+//   peak      the most buffers that one of the frames so far needs
+fn roomy_read(plan: &[u16], m: u16) -> Room
     requires { ⌜ length (now plan) ≤ maxFrames ⌝ }
-    ensures { λ r. ⌜ r ≡ roomyOf false m (now (plan .entry)) ⌝ }
+    ensures roomy { λ r. ⌜ r .roomy ≡ roomyOf false m (now (plan .entry)) ⌝ }
+    ensures peak { λ r. ⌜ r .peak ≡ peakAmong (now (plan .entry)) (r .roomy) ⌝ }
 {
     let n = plan.len();
     let mut ceiling: usize = 0;
+    let mut peak: u16 = 0;
     let mut i: usize = 0;
     while i < n {
         let k = i;
@@ -39,12 +40,19 @@ fn roomy_read(plan: &[u16], m: u16) -> usize
         if ceiling <= c {
             let found = backlog::backlog(false, plan, k, m);
             if m <= found.count {
-                return k;
+                return Room {
+                    roomy: k,
+                    peak: peak,
+                };
             }
             ceiling = c + 1;
+            peak = counting::larger(peak, found.count + 1);
         }
     }
-    n
+    Room {
+        roomy: n,
+        peak: peak,
+    }
 }
 
 // A save: whether all frames have room. A frame that is not behind all later ones has no larger count than one of these, and is not counted.
@@ -89,52 +97,17 @@ fn roomy_save(plan: &[u16], m: u16) -> usize
     n
 }
 
-// The most frames that are read before an earlier one. Only frames ahead of all earlier ones are counted; before cycle 0 there is none.
-//   ceiling   one more than the largest cycle so far, 1 before the first frame
-fn peak(plan: &[u16]) -> u16
-    requires { ⌜ length (now plan) ≤ maxFrames ⌝ }
-    ensures { λ r. ⌜ r ≡ mostOf readBefore (now (plan .entry)) ⌝ }
-{
-    let n = plan.len();
-    let mut ceiling: usize = 1;
-    let mut most: u16 = 0;
-    let mut i: usize = 0;
-    while i < n {
-        let cycle = plan[i];
-        let c = place(cycle);
-        i += 1;
-        if ceiling <= c {
-            ceiling = c + 1;
-            most = counting::larger(
-                most,
-                backlog::count_all(false, Cycle(cycle - 1), &plan[i..]),
-            );
-        }
-    }
-    most
-}
-
 // The pools of a plan, and the peak where all frames have room.
 pub fn pools(save: bool, plan: &[u16], m: u16) -> Room
     requires { ⌜ length (now plan) ≤ maxFrames ⌝ }
     ensures roomy { λ r. ⌜ r .roomy ≡ roomyOf save m (now (plan .entry)) ⌝ }
-    ensures peak { λ r. ⌜ (r .roomy ≡ length (now (plan .entry)) → r .before ≡ peakOf save (now (plan .entry))) ⌝ }
+    ensures peak { λ r. ⌜ (r .roomy ≡ length (now (plan .entry)) → r .peak ≡ peakOf save (now (plan .entry))) ⌝ }
 {
     if save {
         return Room {
             roomy: roomy_save(plan, m),
-            before: 0,
+            peak: 0,
         };
     }
-    let found = roomy_read(plan, m);
-    if found < plan.len() {
-        return Room {
-            roomy: found,
-            before: 0,
-        };
-    }
-    Room {
-        roomy: found,
-        before: peak(plan),
-    }
+    roomy_read(plan, m)
 }

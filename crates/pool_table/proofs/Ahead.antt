@@ -1,17 +1,16 @@
--- The counts of a frame that is ahead of all earlier ones, from the table of cycles.
+-- The count of a frame that is ahead of all earlier ones, from the table of cycles.
 -- Assumes nothing.
 use Prim.Native.Nat.{ℕ, suc, _+_, _<_}
 use mathlib.Core.Path.{_≡_}
 use mathlib.Core.Bool.{_&&_}
 use mathlib.Core.List.{List}
 use native.Mathlib.Omega.{arith}
-use native.Mathlib.Decide.{decLe, decLt, ℕ-discrete}
+use native.Mathlib.Decide.{decLe, ℕ-discrete}
 use lib.Dec.{leb, ltb}
 use lib.ListN.{length}
 use borrow.Author.Tests.{lt-ltb, le-ltb, lt-leb, le-leb}
 use Rattle.counting.specs.Count.{bit}
 use Rattle.schedule.specs.Schedule.{cycleOf, iBacklog}
-use Rattle.schedule.specs.Closed.{readBefore}
 use Rattle.counting.proofs.Sums.{sum-cong, sum-add, all-below}
 use Rattle.pool_table.specs.Table.{cyclesBefore}
 
@@ -47,24 +46,4 @@ module _ (cycles : List ℕ) where
           sum-cong (length cycles) (λ j. bit (ltb (cyc j) (suc (cyc i)))) (λ j. bit (ltb j (suc i)) + bit (ltb i j && leb (cyc j) (cyc i))) (λ j h. up-to j),
           sum-add (length cycles) (λ j. bit (ltb j (suc i))) (λ j. bit (ltb i j && leb (cyc j) (cyc i))),
           all-below (length cycles) (suc i) l,
-        )
-
-    strictly : (j : ℕ) → bit (ltb (cyc j) (cyc i)) ≡ bit (ltb j i) + bit (ltb i j && ltb (cyc j) (cyc i))
-    strictly j =
-        elim (decLt j i) [
-          | yes h ↦ rw (lt-ltb (cyc j) (cyc i) (ahead j h), lt-ltb j i h, le-ltb i j (omega arith))
-          | no h ↦
-              elim (ℕ-discrete j i) [
-                | yes e ↦ rw (e, le-ltb (cyc i) (cyc i) (omega arith), le-ltb i i (omega arith))
-                | no e ↦ rw (le-ltb j i (omega arith), lt-ltb i j (omega arith)) (omega arith)
-              ]
-        ]
-
-    pub before-ahead : cyclesBefore cycles (cyc i) ≡ i + readBefore cycles i
-    before-ahead =
-        omega (
-          arith,
-          sum-cong (length cycles) (λ j. bit (ltb (cyc j) (cyc i))) (λ j. bit (ltb j i) + bit (ltb i j && ltb (cyc j) (cyc i))) (λ j h. strictly j),
-          sum-add (length cycles) (λ j. bit (ltb j i)) (λ j. bit (ltb i j && ltb (cyc j) (cyc i))),
-          all-below (length cycles) i (omega arith),
         )

@@ -18,14 +18,14 @@ use pool_counts::Room;
 pub fn pools(save: bool, plan: &[u16], top: Cycle, m: u16) -> Room
     requires { ⌜ Low (now plan) (top .0) × (1 ≤ m) ⌝ }
     ensures roomy { λ r. ⌜ r .roomy ≡ roomyOf save m (now (plan .entry)) ⌝ }
-    ensures peak { λ r. ⌜ (r .roomy ≡ length (now (plan .entry)) → r .before ≡ peakOf save (now (plan .entry))) ⌝ }
+    ensures peak { λ r. ⌜ (r .roomy ≡ length (now (plan .entry)) → r .peak ≡ peakOf save (now (plan .entry))) ⌝ }
 {
     let mut table = [0u16; limits::FRAMES + 2];
     if save {
         let found = saves::roomy(plan, m, &mut table);
         return Room {
             roomy: found,
-            before: 0,
+            peak: 0,
         };
     }
     table::fill(plan, top, &mut table);

@@ -2,12 +2,13 @@
 -- Assumes nothing.
 use Prim.Native.Nat.{ℕ, suc, _≤_, _<_, max}
 use mathlib.Core.Path.{_≡_, refl, sym, _∙_}
-use mathlib.Core.Bool.{Bool, true, false, _||_, cond}
+use mathlib.Core.Bool.{Bool, true, false, not, _&&_, _||_, cond}
 use mathlib.Core.List.{List, [], _∷_, _++_}
 use native.Mathlib.Omega.{arith}
-use lib.Dec.{leb, ltb}
-use Rattle.schedule.specs.Dock.{Step, readFrame, dropFrame, endCycle, Dock as ModelDock, emptyDock, holding, against, perform, breakOff, step, run}
-use Rattle.schedule.specs.Drive.{Outcome, complete, unfinished, allDelivered, outcome, peak}
+use lib.Dec.{leb}
+use Rattle.counting.proofs.Bits.{by-cases}
+use Rattle.schedule.specs.Dock.{Step, readFrame, dropFrame, endCycle, Dock as ModelDock, emptyDock, against, perform, breakOff, step, run}
+use Rattle.schedule.specs.Drive.{Outcome, complete, unfinished, allDelivered, outcome, isEnd, heldAtEnd, peak}
 use Rattle.schedule.proofs.Outcome.{run-append}
 use Rattle.dock.specs.declared.Dock.{Dock}
 use Rattle.dock.specs.declared.Step.{Step as CodeStep}
@@ -48,13 +49,9 @@ module _ (m : ℕ) (cards : List ℕ) where
         | false ↦ outcome-snoc k a (step m cards b d)
       ]
 
-  -- the frames held after a step that ends a cycle
-  abbrev heldAtEnd : ModelDock → ModelDock → ℕ
-  heldAtEnd before after = cond (ltb (before .ended) (after .ended)) (holding cards after) 0
-
   peak-snoc :
       (k : List Step) (a : Step) (d : ModelDock)
-      → peak m cards (k ++ (a ∷ [])) d ≡ max (peak m cards k d) (heldAtEnd (run m cards k d) (run m cards (k ++ (a ∷ [])) d))
+      → peak m cards (k ++ (a ∷ [])) d ≡ max (peak m cards k d) (heldAtEnd cards a (run m cards k d))
   unfolding run peak
   peak-snoc [] a d = omega arith
   peak-snoc (b ∷ k) a d = omega (arith, peak-snoc k a (step m cards b d))
@@ -80,14 +77,21 @@ module _ (m : ℕ) (cards : List ℕ) where
               ]
         ]
 
+    -- and a read ends none
+    pub read-ends-none : (i : ℕ) → step m cards (readFrame i) d .ended ≡ d .ended
+    read-ends-none i =
+        by-cases (d .broken)
+        (λ b. rw b)
+        (λ b. by-cases (against m cards (readFrame i) d) (λ a. rw (b, a)) (λ a. rw (b, a)))
+
 -- what is kept beside the dock x that a step has left
-abbrev pub noted : Progress → Dock → Progress
-noted p x =
+abbrev pub noted : Progress → Step → Dock → Progress
+noted p a x =
     record {
       dock = x;
       complete = p .complete || leb (x .frames) (x .delivered);
       needed = cond (p .complete) (p .needed) (cond (leb (x .frames) (x .delivered)) (x .ended) 0);
-      peak = max (p .peak) (cond (ltb (p .dock .ended) (x .ended)) (x .holding) 0);
+      peak = max (p .peak) (cond (isEnd a && not (p .dock .broken)) (p .dock .holding) 0);
     }
 
 orLater-noted :
@@ -122,23 +126,19 @@ module _ {p : Progress} {s : CodeStep} {before after : List ℕ} {x : Dock} {k :
     counted : (old .ended ≤ new .ended) × (new .ended ≤ suc (old .ended))
     counted = rw (run-snoc m cards steps (stepOf s) emptyDock) (step-counted m cards old (stepOf s))
 
-    old-ended : p .dock .ended ≡ old .ended
-    old-ended = omega (arith, v .shows .ended)
-
     new-ended : x .ended ≡ new .ended
     new-ended = omega (arith, new-shows .ended, counted)
 
-    outcome-noted : outcome m cards (steps ++ (stepOf s ∷ [])) emptyDock ≡ cond (noted p x .complete) (complete (noted p x .needed)) unfinished
+    outcome-noted : outcome m cards (steps ++ (stepOf s ∷ [])) emptyDock ≡ cond (noted p (stepOf s) x .complete) (complete (noted p (stepOf s) x .needed)) unfinished
     outcome-noted =
         outcome-snoc m cards steps (stepOf s) emptyDock
         ∙ rw (v .outcome-is, new-shows .frames, new-shows .delivered, new-ended)
         (orLater-noted (p .complete) (allDelivered cards new) (p .needed) (new .ended))
 
-    peak-noted : noted p x .peak ≡ peak m cards (steps ++ (stepOf s ∷ [])) emptyDock
-    peak-noted =
-        rw (v .peak-is, old-ended, new-ended, new-shows .holds) (sym (peak-snoc m cards steps (stepOf s) emptyDock))
+    peak-noted : noted p (stepOf s) x .peak ≡ peak m cards (steps ++ (stepOf s ∷ [])) emptyDock
+    peak-noted = rw (v .peak-is, v .shows .broken, v .shows .holds) (sym (peak-snoc m cards steps (stepOf s) emptyDock))
 
-    noted-tracks : Tracks m cards (steps ++ (stepOf s ∷ [])) (noted p x) after
+    noted-tracks : Tracks m cards (steps ++ (stepOf s ∷ [])) (noted p (stepOf s) x) after
     noted-tracks =
         record {
           shows = new-shows;
@@ -152,8 +152,8 @@ module _ {p : Progress} {s : CodeStep} {before after : List ℕ} {x : Dock} {k :
 
   -- the same, with each part as the code finds it
   pub noted-tracked :
-      {b : Bool} {n h most : ℕ} → b ≡ (p .complete || leb (x .frames) (x .delivered))
+      {b end : Bool} {n h most : ℕ} → b ≡ (p .complete || leb (x .frames) (x .delivered))
       → n ≡ cond (p .complete) (p .needed) (cond (leb (x .frames) (x .delivered)) (x .ended) 0)
-      → h ≡ cond (ltb (p .dock .ended) (x .ended)) (x .holding) 0 → most ≡ max (p .peak) h
+      → end ≡ isEnd (stepOf s) → h ≡ cond (end && not (p .dock .broken)) (p .dock .holding) 0 → most ≡ max (p .peak) h
       → Tracked p (stepOf s) before (record { dock = x; complete = b; needed = n; peak = most }) after
-  noted-tracked eb en eh ek = rw (eb, en, ek, eh) (record { follows = noted-tracks })
+  noted-tracked eb en ee eh ek = rw (eb, en, ek, eh, ee) (record { follows = noted-tracks })

@@ -32,11 +32,13 @@ pool-rule (suc (suc i)) l = absurd (omega arith)
 pub newest-first-correct : CorrectSave 2 (0 ∷ 0 ∷ []) newestFirst
 newest-first-correct =
     record {
-      one-each = refl;
-      from-one = from-one;
-      card-rule = λ i j l k c e.
-          let first : i ≡ 0 = omega arith in
-          let second : j ≡ 1 = omega arith in
-          absurd (omega (arith, rw (first, second) at e));
+      proper = record {
+        one-each = refl;
+        from-one = from-one;
+        card-rule = λ i j l k c e.
+            let first : i ≡ 0 = omega arith in
+            let second : j ≡ 1 = omega arith in
+            absurd (omega (arith, rw (first, second) at e));
+      };
       pool-rule = pool-rule;
     }

@@ -28,7 +28,7 @@ module _ (m : ℕ) (cards cycles : List ℕ) (ok : CorrectRead m cards cycles) w
   T = cyclesIn cycles
 
   abbrev Mid : ℕ → ℕ → Dock → Type 0
-  Mid = mid.Mid m cards cycles
+  Mid = mid.Mid cards cycles
 
   -- somewhere in the first T cycles
   abbrev OnTrack : Dock → Type 0
@@ -45,7 +45,7 @@ module _ (m : ℕ) (cards cycles : List ℕ) (ok : CorrectRead m cards cycles) w
       let at-k : Dock = run m cards steps d in
       elim (ℕ-discrete (cyc k) (suc n)) [
         | yes e ↦
-            (let now : Mid n (suc k) (step m cards (readFrame k) at-k) = mid.mid-read m cards cycles ok n k at-k h e (r .0) in
+            (let now : Mid n (suc k) (step m cards (readFrame k) at-k) = mid.mid-read cards cycles m ok n k at-k h e (r .0) in
             rw (eq-eqb (cyc k) (suc n) e, run-append m cards steps (readFrame k ∷ []) d) (
               now,
               throughout-append m cards OnTrack steps (readFrame k ∷ []) d (r .1)
@@ -53,7 +53,7 @@ module _ (m : ℕ) (cards cycles : List ℕ) (ok : CorrectRead m cards cycles) w
             ))
         | no e ↦
             rw (ne-eqb (cyc k) (suc n) e, run-append m cards steps [] d) (
-              mid.mid-skip m cards cycles ok n k at-k e (r .0),
+              mid.mid-skip cards cycles m ok n k at-k e (r .0),
               throughout-append m cards OnTrack steps [] d (r .1) (throughout-none m cards OnTrack at-k (n, k, b, r .0)),
             )
       ]
@@ -71,7 +71,7 @@ module _ (m : ℕ) (cards cycles : List ℕ) (ok : CorrectRead m cards cycles) w
       let reads : List Step = readsOf cycles (suc n) L in
       let filled : Dock = run m cards reads start in
       let q : Reached n L reads start = reached-reads n L start (omega arith) (omega arith) (r .0) in
-      let now : Mid (suc n) 0 (step m cards endCycle filled) = mid.mid-end m cards cycles ok n filled (q .0) in
+      let now : Mid (suc n) 0 (step m cards endCycle filled) = mid.mid-end cards cycles m ok n filled (q .0) in
       rw (run-append m cards steps (reads ++ (endCycle ∷ [])) emptyDock, run-append m cards reads (endCycle ∷ []) start) (
         now,
         throughout-append m cards OnTrack steps (reads ++ (endCycle ∷ [])) emptyDock (r .1)
@@ -81,12 +81,12 @@ module _ (m : ℕ) (cards cycles : List ℕ) (ok : CorrectRead m cards cycles) w
 
   reached-cycle : (n : ℕ) → suc n ≤ T → Reached n 0 (stepsTo cycles n) emptyDock → Reached (suc n) 0 (stepsTo cycles (suc n)) emptyDock
   unfolding stepsTo
-  reached-cycle n h r = rw (ok .one-each) (reached-end n (stepsTo cycles n) h r)
+  reached-cycle n h r = rw (ok .proper .one-each) (reached-end n (stepsTo cycles n) h r)
 
   reached-none : Reached 0 0 (stepsTo cycles 0) emptyDock
   unfolding run stepsTo
   reached-none =
-      let start : Mid 0 0 emptyDock = mid.mid-start m cards cycles ok in
+      let start : Mid 0 0 emptyDock = mid.mid-start cards cycles m ok in
       (start, throughout-none m cards OnTrack emptyDock (0, 0, zero-le, start))
 
   pub reached-cycles : (n : ℕ) → n ≤ T → Reached n 0 (stepsTo cycles n) emptyDock
@@ -101,7 +101,7 @@ module _ (m : ℕ) (cards cycles : List ℕ) (ok : CorrectRead m cards cycles) w
       elim (decLt 0 T) [
         | yes l ↦
             (let last : (i : ℕ) × (i < length cycles) × (cyc i ≡ T) = largest-met cycles l in
-            omega (arith, v .done (last .0) (omega (arith, last .1, ok .one-each)), last .2, v .ends))
+            omega (arith, v .done (last .0) (omega (arith, last .1, ok .proper .one-each)), last .2, v .ends))
         | no l ↦ omega (arith, v .ends)
       ]
 
@@ -124,5 +124,5 @@ module _ (m : ℕ) (cards cycles : List ℕ) (ok : CorrectRead m cards cycles) w
         needs-T = c .2 ∙ ap complete (complete-at (run m cards (take (c .0) steps) emptyDock) (r .1 (c .0)) (c .1));
         within-pool = λ n.
             let s : OnTrack (run m cards (take n steps) emptyDock) = r .1 n in
-            mid.mid-pool m cards cycles ok (s .0) (s .1) (run m cards (take n steps) emptyDock) (s .3);
+            mid.mid-pool cards cycles m ok (s .0) (s .1) (run m cards (take n steps) emptyDock) (s .3);
       }

@@ -90,19 +90,21 @@ module _ (m : ℕ) (backlog back : List ℕ → ℕ → ℕ) (cards cycles : Lis
   N = length cards
 
   turned-cycle : (i : ℕ) → i < N → cycleOf (turnRound (cyclesIn cycles) cycles) i ≡ cyclesIn cycles - cycleOf cycles (N - suc i) + 1
-  turned-cycle = turned-is cards cycles (ok .one-each)
+  turned-cycle = turned-is cards cycles (ok .proper .one-each)
 
   turned-correct : ((i : ℕ) → i < N → back (turnRound (cyclesIn cycles) cycles) i ≤ backlog cycles (N - suc i))
       → Correct back m (reverse cards) (turnRound (cyclesIn cycles) cycles)
   turned-correct pool =
       record {
-        one-each = length-turnRound (cyclesIn cycles) cycles ∙ ok .one-each ∙ sym (length-reverse cards);
-        from-one = λ i l. omega (arith, turned-cycle i (omega (arith, length-reverse cards)));
-        card-rule = λ i j l k c e.
-            let inside : j < N = omega (arith, length-reverse cards) in
-            ok .card-rule (N - suc j) (N - suc i) (omega arith) (omega arith)
-            (omega (arith, reverse-getD cards i (omega arith), reverse-getD cards j inside))
-            (omega (arith, turned-cycle i (omega arith), turned-cycle j inside, le-largest cycles (N - suc i), le-largest cycles (N - suc j)));
+        proper = record {
+          one-each = length-turnRound (cyclesIn cycles) cycles ∙ ok .proper .one-each ∙ sym (length-reverse cards);
+          from-one = λ i l. omega (arith, turned-cycle i (omega (arith, length-reverse cards)));
+          card-rule = λ i j l k c e.
+              let inside : j < N = omega (arith, length-reverse cards) in
+              ok .proper .card-rule (N - suc j) (N - suc i) (omega arith) (omega arith)
+              (omega (arith, reverse-getD cards i (omega arith), reverse-getD cards j inside))
+              (omega (arith, turned-cycle i (omega arith), turned-cycle j inside, le-largest cycles (N - suc i), le-largest cycles (N - suc j)));
+        };
         pool-rule = λ i l.
             let inside : i < N = omega (arith, length-reverse cards) in
             omega (arith, pool i inside, ok .pool-rule (N - suc i) (omega arith));
@@ -113,12 +115,12 @@ module _ (m : ℕ) (backlog back : List ℕ → ℕ → ℕ) (cards cycles : Lis
   turned-no-longer =
       largest-le (turnRound (cyclesIn cycles) cycles) (cyclesIn cycles)
       (λ i l.
-      let inside : i < N = omega (arith, length-turnRound (cyclesIn cycles) cycles, ok .one-each) in
-      omega (arith, turned-cycle i inside, ok .from-one (N - suc i) (omega arith), le-largest cycles (N - suc i)))
+      let inside : i < N = omega (arith, length-turnRound (cyclesIn cycles) cycles, ok .proper .one-each) in
+      omega (arith, turned-cycle i inside, ok .proper .from-one (N - suc i) (omega arith), le-largest cycles (N - suc i)))
 
 module _ (m : ℕ) (cards cycles : List ℕ) where
   pub save-to-read : CorrectSave m cards cycles → CorrectRead m (reverse cards) (turnRound (cyclesIn cycles) cycles)
-  save-to-read ok = turned-correct m oBacklog iBacklog cards cycles ok (iBacklog-turned cards cycles (ok .one-each))
+  save-to-read ok = turned-correct m oBacklog iBacklog cards cycles ok (iBacklog-turned cards cycles (ok .proper .one-each))
 
   pub read-to-save : CorrectRead m cards cycles → CorrectSave m (reverse cards) (turnRound (cyclesIn cycles) cycles)
-  read-to-save ok = turned-correct m iBacklog oBacklog cards cycles ok (oBacklog-turned cards cycles (ok .one-each))
+  read-to-save ok = turned-correct m iBacklog oBacklog cards cycles ok (oBacklog-turned cards cycles (ok .proper .one-each))

@@ -117,17 +117,19 @@ module _ (backlog : List ℕ → ℕ → ℕ) (m : ℕ) (cards cycles : List ℕ
   pub faultless-correct : length cycles ≡ length cards → ((i : ℕ) → i < length cards → Faultless i) → Correct backlog m cards cycles
   faultless-correct e h =
       record {
-        one-each = e;
-        from-one = λ i l. omega (arith, h i l .a-cycle);
-        card-rule = λ i j l k. alone-apart i j l (h j k .alone);
+        proper = record {
+          one-each = e;
+          from-one = λ i l. omega (arith, h i l .a-cycle);
+          card-rule = λ i j l k. alone-apart i j l (h j k .alone);
+        };
         pool-rule = λ i l. h i l .pooled;
       }
 
   pub correct-faultless : Correct backlog m cards cycles → (i : ℕ) → i < length cards → Faultless i
   correct-faultless ok i l =
       record {
-        a-cycle = λ e. omega (arith, ok .from-one i l);
-        alone = apart-alone i (λ j k. ok .card-rule j i k l);
+        a-cycle = λ e. omega (arith, ok .proper .from-one i l);
+        alone = apart-alone i (λ j k. ok .proper .card-rule j i k l);
         pooled = ok .pool-rule i l;
       }
 

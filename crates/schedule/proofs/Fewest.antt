@@ -44,7 +44,7 @@ module _ (m : ℕ) (cards : List ℕ) (pos : 1 ≤ m) where
         arith,
         greedy-fewest (greedy .cycles) greedy-correct,
         largest-le (greedy .cycles) (greedy .T)
-            (λ i l. process.greedy-cycles-made m cards (above cards) (below cards) pos i (omega (arith, greedy-correct .one-each))),
+            (λ i l. process.greedy-cycles-made m cards (above cards) (below cards) pos i (omega (arith, greedy-correct .proper .one-each))),
       )
 
 -- a read of a list takes as many cycles as a save of the reversed list

@@ -6,6 +6,7 @@ pub mod Cases
 pub mod Exact
 pub mod Named
 pub mod Peak
+pub mod Broken
 pub mod Drive
 pub mod Mid
 pub mod Duality

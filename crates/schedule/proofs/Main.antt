@@ -1,27 +1,28 @@
 -- The public theorems about schedules and the dock, each proved in a module of its own. They hold for every list of cards and every pool m
--- from 1 on, with no other premise. The definitions are in specs/: Schedule, Greedy, Dock, Drive, Closed; demand 3 as a whole is in
--- specs/Demand; joined lists are in crates/counting/specs/Joined.
+-- from 1 on, with no other premise. The definitions are in specs/: Schedule, Greedy, Dock, Drive; demand 3 as a whole is in specs/Demand;
+-- joined lists are in crates/counting/specs/Joined.
 -- Assumes nothing.
-use Prim.Native.Nat.{ℕ, _≤_}
+use Prim.Native.Nat.{ℕ, suc, _≤_, _<_}
 use mathlib.Core.Path.{_≡_, ap, _∙_}
 use mathlib.Core.List.{List, [], _∷_, reverse, map}
+use native.Mathlib.Omega.{arith}
 use lib.ListN.{length}
 use Rattle.counting.specs.Count.{tabulate, largest}
 use Rattle.counting.specs.Joined.{Sub, Joined}
 use Rattle.counting.proofs.Joined.{joined-first, joined-second}
-use Rattle.schedule.specs.Schedule.{cyclesIn, oBacklog, iBacklog, CorrectSave, CorrectRead}
+use Rattle.schedule.specs.Schedule.{cyclesIn, oBacklog, iBacklog, Proper, CorrectSave, CorrectRead}
 use Rattle.schedule.specs.Greedy.{greedyWriting, turnRound, lazyPrefetching}
 use Rattle.schedule.specs.Dock.{Step, emptyDock, run}
-use Rattle.schedule.specs.Drive.{complete, outcome, stepsOf, peak}
+use Rattle.schedule.specs.Drive.{complete, outcome, stepsOf, peak, buffersNeeded, BreaksAtEnd}
 use Rattle.schedule.specs.Verdict.{Fault, valid, faulty, verdictOnRead, verdictOnSave, Named}
 use Rattle.schedule.specs.Demand.{SaveDemand, Drives, ReadDemand}
-use Rattle.schedule.specs.Closed.{readBefore}
 use Rattle.schedule.specs.Cases.{computed, expected, cases}
 use Rattle.schedule.proofs.Fewest as fewest
 use Rattle.schedule.proofs.SubLists as sublists
 use Rattle.schedule.proofs.Duality as duality
 use Rattle.schedule.proofs.Drive as drive
 use Rattle.schedule.proofs.Peak as peaks
+use Rattle.schedule.proofs.Broken as broken
 use Rattle.schedule.proofs.Exact as exact
 use Rattle.schedule.proofs.Named as faults
 use Rattle.schedule.proofs.Cases as table
@@ -71,22 +72,16 @@ module _ (m : ℕ) (cards cycles : List ℕ) where
   pub correct-drives : CorrectRead m cards cycles → Drives m cards cycles (cyclesIn cycles)
   correct-drives = drive.correct-drives m cards cycles
 
-  -- The peak of every correct read schedule's run, on a dock with a buffer for every frame, is the largest number of later frames that are
-  -- read before a frame.
-  pub peak-closed : CorrectRead m cards cycles
-      → peak (length cards) cards (stepsOf cycles) emptyDock ≡ largest (tabulate (length cycles) (readBefore cycles))
-  peak-closed = peaks.peak-closed m cards cycles
-
   -- The checker's verdict (demand 2). A plan of L cycles is called valid exactly when it is a correct schedule; T is then its number of
   -- cycles, and the peak that of its run on a dock with a buffer for every frame.
   pub valid-read : length cycles ≡ length cards → (T p : ℕ) → verdictOnRead m cards cycles ≡ valid T p → CorrectRead m cards cycles
   unfolding verdictOnRead
-  valid-read = λ n T p. exact.valid-correct iBacklog m cards cycles (valid (cyclesIn cycles) (peak (length cards) cards (stepsOf cycles) emptyDock)) T p n
+  valid-read = λ n T p. exact.valid-correct iBacklog m cards cycles (valid (cyclesIn cycles) (buffersNeeded cards cycles)) T p n
 
   pub read-valid : CorrectRead m cards cycles
-      → verdictOnRead m cards cycles ≡ valid (cyclesIn cycles) (peak (length cards) cards (stepsOf cycles) emptyDock)
+      → verdictOnRead m cards cycles ≡ valid (cyclesIn cycles) (buffersNeeded cards cycles)
   unfolding verdictOnRead
-  read-valid = exact.correct-valid iBacklog m cards cycles (valid (cyclesIn cycles) (peak (length cards) cards (stepsOf cycles) emptyDock))
+  read-valid = exact.correct-valid iBacklog m cards cycles (valid (cyclesIn cycles) (buffersNeeded cards cycles))
 
   pub valid-save : length cycles ≡ length cards → (T p : ℕ) → verdictOnSave m cards cycles ≡ valid T p → CorrectSave m cards cycles
   unfolding verdictOnSave
@@ -99,7 +94,7 @@ module _ (m : ℕ) (cards cycles : List ℕ) where
   -- A verdict that is not valid names the lowest position at fault, and the first of its faults.
   pub read-named : (i : ℕ) (f : Fault) → verdictOnRead m cards cycles ≡ faulty i f → Named iBacklog m cards cycles i f
   unfolding verdictOnRead
-  read-named = faults.named iBacklog m cards cycles (cyclesIn cycles) (peak (length cards) cards (stepsOf cycles) emptyDock)
+  read-named = faults.named iBacklog m cards cycles (cyclesIn cycles) (buffersNeeded cards cycles)
 
   pub save-named : (i : ℕ) (f : Fault) → verdictOnSave m cards cycles ≡ faulty i f → Named oBacklog m cards cycles i f
   unfolding verdictOnSave
@@ -115,14 +110,49 @@ module _ (m : ℕ) (cards cycles : List ℕ) where
       → CorrectSave m (reverse cards) (turnRound (cyclesIn cycles) cycles) × (cyclesIn (turnRound (cyclesIn cycles) cycles) ≤ cyclesIn cycles)
   read-to-save ok = (duality.read-to-save m cards cycles ok, duality.turned-no-longer m iBacklog oBacklog cards cycles ok)
 
--- Our own plans are always valid, with their T.
+-- The peak as the buffers really needed (request 2026-05).
+module _ (cards cycles : List ℕ) where
+  -- "A read plan without cycle 0 or a shared card and cycle is then valid for pool m exactly when the peak of its run, on a dock with a buffer for
+  -- every frame, is at most m."
+  pub correct-within-peak :
+      Proper cards cycles
+      → (m : ℕ) → (CorrectRead m cards cycles → buffersNeeded cards cycles ≤ m) × (buffersNeeded cards cycles ≤ m → CorrectRead m cards cycles)
+  correct-within-peak ok m = (peaks.correct-within cards cycles ok m, peaks.within-correct cards cycles ok m)
+
+  -- That peak without a run: the largest backlog and one, for the frame itself; 0 for no frames.
+  pub peak-closed : Proper cards cycles → buffersNeeded cards cycles ≡ largest (tabulate (length cycles) (λ i. suc (iBacklog cycles i)))
+  peak-closed = peaks.needed-closed cards cycles
+
+  -- So the peak of a correct read schedule is the smallest pool for which it is correct,
+  pub peak-smallest :
+      (m : ℕ) → CorrectRead m cards cycles
+      → CorrectRead (buffersNeeded cards cycles) cards cycles × ((pool : ℕ) → CorrectRead pool cards cycles → buffersNeeded cards cycles ≤ pool)
+  peak-smallest m ok = (
+    peaks.within-correct cards cycles (ok .proper) (buffersNeeded cards cycles) (omega arith),
+    peaks.correct-within cards cycles (ok .proper),
+  )
+
+  -- and its run on the dock of each such pool has that same peak.
+  pub peak-same : (m : ℕ) → CorrectRead m cards cycles → peak m cards (stepsOf cycles) emptyDock ≡ buffersNeeded cards cycles
+  peak-same m = peaks.same-peak m cards cycles
+
+-- The peak of EVERY list of steps is above the pool just where the list is broken off at an end of a cycle.
+pub peak-above-pool :
+    (m : ℕ) (cards : List ℕ) (steps : List Step)
+    → (m < peak m cards steps emptyDock → BreaksAtEnd m cards steps emptyDock) × (BreaksAtEnd m cards steps emptyDock → m < peak m cards steps emptyDock)
+peak-above-pool m cards steps = (broken.above-breaks m cards steps emptyDock, broken.breaks-above m cards steps emptyDock)
+
+-- Our own plans are always valid, with their T; the read plan's peak is at most its pool.
 module _ (m : ℕ) (cards : List ℕ) (pool : 1 ≤ m) where
   pub own-read-valid :
       verdictOnRead m cards (lazyPrefetching m cards .cycles)
-      ≡ valid (lazyPrefetching m cards .T) (peak (length cards) cards (stepsOf (lazyPrefetching m cards .cycles)) emptyDock)
+      ≡ valid (lazyPrefetching m cards .T) (buffersNeeded cards (lazyPrefetching m cards .cycles))
   own-read-valid =
       read-valid m cards (lazyPrefetching m cards .cycles) (read-correct m cards pool)
-      ∙ ap (λ T. valid T (peak (length cards) cards (stepsOf (lazyPrefetching m cards .cycles)) emptyDock)) (read-length m cards pool)
+      ∙ ap (λ T. valid T (buffersNeeded cards (lazyPrefetching m cards .cycles))) (read-length m cards pool)
+
+  pub own-peak : buffersNeeded cards (lazyPrefetching m cards .cycles) ≤ m
+  own-peak = let ok = read-correct m cards pool in correct-within-peak cards (lazyPrefetching m cards .cycles) (ok .proper) m .0 ok
 
   pub own-save-valid : verdictOnSave m cards (greedyWriting m cards .cycles) ≡ valid (greedyWriting m cards .T) 0
   own-save-valid =

@@ -13,13 +13,13 @@ use lib.ListN.{length}
 use borrow.Author.Tests.{eq-eqb, ne-eqb, leb-true, le-leb, lt-leb, lt-ltb, le-ltb}
 use Rattle.counting.specs.Count.{bit}
 use Rattle.counting.specs.Frames.{cardOf}
-use Rattle.schedule.specs.Schedule.{cycleOf, CorrectRead}
+use Rattle.schedule.specs.Schedule.{cycleOf, iBacklog, CorrectRead}
 use Rattle.schedule.specs.Dock.{readFrame, endCycle, Dock, emptyDock, isIn, deliver, holding, perform, step}
 use Rattle.counting.proofs.Bits.{by-cases, and-left, and-right, or-right, bit-le-one}
 use Rattle.counting.proofs.Sums.{sum-mono, sum-add, sum-zero, equal-at-most-one}
 use Rattle.schedule.proofs.Deliver.{deliver-from, deliver-within, deliver-stops, deliver-held}
 
-module _ (m : ℕ) (cards cycles : List ℕ) where
+module _ (cards cycles : List ℕ) where
   abbrev L : ℕ
   L = length cards
 
@@ -41,44 +41,52 @@ module _ (m : ℕ) (cards cycles : List ℕ) where
     pub held-new : (i : ℕ) → i < L → d .delivered ≤ i → cyc i ≡ suc n → i < k → d .held i ≡ true
     pub free : (i : ℕ) → i < L → k ≤ i → cyc i ≡ suc n → isIn (card i) (d .busy) ≡ false
 
-  module _ (ok : CorrectRead m cards cycles) where
-    -- the pool
+  -- what is held: the first frame not delivered, and frames of its backlog
 
-    held-backlog : (n k : ℕ) (d : Dock) → Mid n k d → d .delivered < L → (i : ℕ) → i < L
-        → bit (d .held i) ≤ bit (eqb i (d .delivered)) + bit (ltb (d .delivered) i && leb (cyc i) (cyc (d .delivered)))
-    held-backlog n k d v l i g =
-        by-cases (d .held i)
-        (λ e.
-        let w : (d .delivered ≤ i) × (cyc i ≤ suc n) = v .held-only i g e in
-        elim (ℕ-discrete i (d .delivered)) [
-          | yes y ↦ rw (eq-eqb i (d .delivered) y) (omega (arith, bit-le-one (d .held i)))
-          | no y ↦
-              (let a : d .delivered < i = omega arith in
-              let b : cyc i ≤ cyc (d .delivered) = omega (arith, v .next l) in
-              rw (lt-ltb (d .delivered) i a, le-leb (cyc i) (cyc (d .delivered)) b) (omega (arith, bit-le-one (d .held i))))
-        ])
-        (λ e. rw e zero-le)
+  held-backlog : (n k : ℕ) (d : Dock) → Mid n k d → d .delivered < L → (i : ℕ) → i < L
+      → bit (d .held i) ≤ bit (eqb i (d .delivered)) + bit (ltb (d .delivered) i && leb (cyc i) (cyc (d .delivered)))
+  held-backlog n k d v l i g =
+      by-cases (d .held i)
+      (λ e.
+      let w : (d .delivered ≤ i) × (cyc i ≤ suc n) = v .held-only i g e in
+      elim (ℕ-discrete i (d .delivered)) [
+        | yes y ↦ rw (eq-eqb i (d .delivered) y) (omega (arith, bit-le-one (d .held i)))
+        | no y ↦
+            (let a : d .delivered < i = omega arith in
+            let b : cyc i ≤ cyc (d .delivered) = omega (arith, v .next l) in
+            rw (lt-ltb (d .delivered) i a, le-leb (cyc i) (cyc (d .delivered)) b) (omega (arith, bit-le-one (d .held i))))
+      ])
+      (λ e. rw e zero-le)
 
+  -- so a number above every backlog is no less
+  pub held-within : length cycles ≡ L → (n k : ℕ) (d : Dock) → Mid n k d → (b : ℕ) → ((i : ℕ) → i < L → iBacklog cycles i < b) → holding cards d ≤ b
+  held-within one-each n k d v b top =
+      elim (decLt (d .delivered) L) [
+        | yes l ↦
+            omega (
+              arith,
+              rw one-each at (top (d .delivered) l),
+              sum-mono L (λ i. bit (d .held i))
+                  (λ i. bit (eqb i (d .delivered)) + bit (ltb (d .delivered) i && leb (cyc i) (cyc (d .delivered)))) (held-backlog n k d v l),
+              sum-add L (λ i. bit (eqb i (d .delivered))) (λ i. bit (ltb (d .delivered) i && leb (cyc i) (cyc (d .delivered)))),
+              equal-at-most-one L (d .delivered),
+            )
+        | no l ↦
+            omega (
+              arith,
+              sum-mono L (λ i. bit (d .held i)) (λ i. 0)
+                  (λ i g. by-cases (d .held i) (λ e. absurd (omega (arith, v .held-only i g e))) (λ e. rw e (omega arith))),
+              sum-zero L,
+            )
+      ]
+
+  -- after the reads of a cycle all frames are held that have had their cycle and are not delivered
+  pub all-held : (n : ℕ) (d : Dock) → Mid n L d → (i : ℕ) → i < L → d .delivered ≤ i → cyc i ≤ suc n → d .held i ≡ true
+  all-held n d v i l h a = elim (decLe (cyc i) n) [ yes g ↦ v .held-old i l h g | no g ↦ v .held-new i l h (omega arith) l ]
+
+  module _ (m : ℕ) (ok : CorrectRead m cards cycles) where
     pub mid-pool : (n k : ℕ) (d : Dock) → Mid n k d → holding cards d ≤ m
-    mid-pool n k d v =
-        elim (decLt (d .delivered) L) [
-          | yes l ↦
-              omega (
-                arith,
-                rw (ok .one-each) at (ok .pool-rule (d .delivered) l),
-                sum-mono L (λ i. bit (d .held i))
-                    (λ i. bit (eqb i (d .delivered)) + bit (ltb (d .delivered) i && leb (cyc i) (cyc (d .delivered)))) (held-backlog n k d v l),
-                sum-add L (λ i. bit (eqb i (d .delivered))) (λ i. bit (ltb (d .delivered) i && leb (cyc i) (cyc (d .delivered)))),
-                equal-at-most-one L (d .delivered),
-              )
-          | no l ↦
-              omega (
-                arith,
-                sum-mono L (λ i. bit (d .held i)) (λ i. 0)
-                    (λ i g. by-cases (d .held i) (λ e. absurd (omega (arith, v .held-only i g e))) (λ e. rw e (omega arith))),
-                sum-zero L,
-              )
-        ]
+    mid-pool n k d v = held-within (ok .proper .one-each) n k d v m (ok .pool-rule)
 
     -- the reads of a cycle
 
@@ -132,13 +140,10 @@ module _ (m : ℕ) (cards cycles : List ℕ) where
                     rw (eq-eqb i k y) (or-right (d .held k) (leb (d .delivered) k) (le-leb (d .delivered) k f)))
                 | no y ↦ still-held k d i (v .held-new i g h a (omega arith))
               ];
-          free = λ i g f a. rw (ne-eqb (card i) (card k) (λ e. ok .card-rule k i f g (sym e) (omega arith)), v .free i g (omega arith) a);
+          free = λ i g f a. rw (ne-eqb (card i) (card k) (λ e. ok .proper .card-rule k i f g (sym e) (omega arith)), v .free i g (omega arith) a);
         })
 
     -- the end of a cycle
-
-    all-held : (n : ℕ) (d : Dock) → Mid n L d → (i : ℕ) → i < L → d .delivered ≤ i → cyc i ≤ suc n → d .held i ≡ true
-    all-held n d v i l h a = elim (decLe (cyc i) n) [ yes g ↦ v .held-old i l h g | no g ↦ v .held-new i l h (omega arith) l ]
 
     pub mid-end : (n : ℕ) (d : Dock) → Mid n L d → Mid (suc n) 0 (step m cards endCycle d)
     mid-end n d v =
@@ -177,9 +182,9 @@ module _ (m : ℕ) (cards cycles : List ℕ) where
           unbroken = refl;
           ends = refl;
           done = λ i l. absurd (omega arith);
-          next = λ l. ok .from-one 0 l;
+          next = λ l. ok .proper .from-one 0 l;
           held-only = λ i l e. absurd (false≢true e);
-          held-old = λ i l h a. absurd (omega (arith, ok .from-one i l));
+          held-old = λ i l h a. absurd (omega (arith, ok .proper .from-one i l));
           held-new = λ i l h a k. absurd (omega arith);
           free = λ i l k a. refl;
         }

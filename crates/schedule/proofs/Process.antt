@@ -137,9 +137,11 @@ module _ (m : ℕ) (cards : List ℕ) (D : ℕ) (low : (i : ℕ) → i < length 
     greedy-correct =
         let v : Inv m cards D low L (at plan) (plan .T) = good-greedy .0 .inv in
         record {
-          one-each = good-greedy .0 .long;
-          from-one = greedy-from-one;
-          card-rule = λ i j l k c e. omega (arith, v .card-rule i j l k c e, greedy-from-one i (omega arith));
+          proper = record {
+            one-each = good-greedy .0 .long;
+            from-one = greedy-from-one;
+            card-rule = λ i j l k c e. omega (arith, v .card-rule i j l k c e, greedy-from-one i (omega arith));
+          };
           pool-rule = λ i l.
               omega (
                 arith,

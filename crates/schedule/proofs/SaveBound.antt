@@ -66,7 +66,7 @@ module _ (m : ℕ) (cards cycles : List ℕ) (D : ℕ) (low : (i : ℕ) → i < 
         sum-add L (λ i. bit (eqb (card i) c && leb (cyc i) t)) (λ i. bit (writes (suc t) c i)),
         at-most-one L (writes (suc t) c)
             (λ i j l k a b.
-            ok .card-rule i j l k
+            ok .proper .card-rule i j l k
             (omega (arith, writes-card (suc t) c i a, writes-card (suc t) c j b))
             (omega (arith, writes-cycle (suc t) c i a, writes-cycle (suc t) c j b))),
       )
@@ -76,7 +76,7 @@ module _ (m : ℕ) (cards cycles : List ℕ) (D : ℕ) (low : (i : ℕ) → i < 
       omega (
         arith,
         sum-mono L (λ i. bit (eqb (card i) c && leb (cyc i) 0)) (λ i. 0)
-            (λ i l. omega (arith, bit-and-off (eqb (card i) c) (leb (cyc i) 0) (lt-leb (cyc i) 0 (ok .from-one i l)))),
+            (λ i l. omega (arith, bit-and-off (eqb (card i) c) (leb (cyc i) 0) (lt-leb (cyc i) 0 (ok .proper .from-one i l)))),
         sum-zero L,
       )
   done-under-bound (suc t) c =

@@ -66,10 +66,10 @@ pub sub-correct : (m : ℕ) {part whole : List ℕ} (s : Sub part whole) (cycles
     → CorrectSave m whole cycles → CorrectSave m part (keptCycles s cycles)
 sub-correct m {part} {whole} s cycles ok =
     table-correct part (λ i. cycleOf cycles (place s i)) m
-    (λ i l. ok .from-one (place s i) (place-inside s i l))
+    (λ i l. ok .proper .from-one (place s i) (place-inside s i l))
     (λ i j l k c.
     let same : cardOf whole (place s i) ≡ cardOf whole (place s j) = sym (place-card s i (omega arith)) ∙ c ∙ place-card s j k in
-    ok .card-rule (place s i) (place s j) (place-order s i j l) (place-inside s j k) same)
+    ok .proper .card-rule (place s i) (place s j) (place-order s i j l) (place-inside s j k) same)
     (λ i l.
     omega (
       arith,

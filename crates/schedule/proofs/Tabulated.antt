@@ -26,9 +26,11 @@ module _ (cards : List ℕ) (f : ℕ → ℕ) where
       → CorrectSave m cards (tabulate L f)
   table-correct m from apart fits =
       record {
-        one-each = length-tabulate L f;
-        from-one = λ i l. rw (table-at i l) (from i l);
-        card-rule = λ i j l k c e. apart i j l k c (sym (table-at i (omega arith)) ∙ e ∙ table-at j k);
+        proper = record {
+          one-each = length-tabulate L f;
+          from-one = λ i l. rw (table-at i l) (from i l);
+          card-rule = λ i j l k c e. apart i j l k c (sym (table-at i (omega arith)) ∙ e ∙ table-at j k);
+        };
         pool-rule = λ i l.
             omega (
               arith,

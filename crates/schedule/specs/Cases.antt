@@ -91,19 +91,27 @@ cases =
     ∷ drive 1 (0 ∷ []) (readFrame 0 ∷ endCycle ∷ endCycle ∷ readFrame 0 ∷ readFrame 0 ∷ []) gives dock (complete 1) 1 0 true
     -- with no frames a run is complete from the start
     ∷ drive 1 [] (endCycle ∷ endCycle ∷ []) gives dock (complete 0) 0 0 false
-    -- the peak counts what is held right after the end of a cycle, and no end against the rules
-    ∷ peakOf 3 (0 ∷ 0 ∷ 1 ∷ []) (readFrame 0 ∷ readFrame 2 ∷ endCycle ∷ readFrame 1 ∷ endCycle ∷ []) gives most 1
-    ∷ peakOf 3 (0 ∷ 0 ∷ 1 ∷ []) (readFrame 0 ∷ endCycle ∷ readFrame 1 ∷ readFrame 2 ∷ endCycle ∷ []) gives most 0
-    ∷ peakOf 1 (0 ∷ 1 ∷ 2 ∷ []) (readFrame 1 ∷ readFrame 2 ∷ endCycle ∷ []) gives most 0
+    -- the peak counts what is held right after the reads of a cycle, before handing over
+    ∷ peakOf 3 (0 ∷ 0 ∷ 1 ∷ []) (readFrame 0 ∷ readFrame 2 ∷ endCycle ∷ readFrame 1 ∷ endCycle ∷ []) gives most 2
+    ∷ peakOf 3 (0 ∷ 0 ∷ 1 ∷ []) (readFrame 0 ∷ endCycle ∷ readFrame 1 ∷ readFrame 2 ∷ endCycle ∷ []) gives most 2
+    -- an end that finds more than m held counts, and nothing after it
+    ∷ peakOf 1 (0 ∷ 1 ∷ 2 ∷ []) (readFrame 1 ∷ readFrame 2 ∷ endCycle ∷ readFrame 0 ∷ endCycle ∷ []) gives most 2
+    -- reads that no end follows within the rules do not count, and a frame dropped before the reads is not held
+    ∷ peakOf 3 (0 ∷ 0 ∷ 1 ∷ []) (readFrame 0 ∷ endCycle ∷ readFrame 1 ∷ readFrame 2 ∷ []) gives most 1
+    ∷ peakOf 3 (0 ∷ 0 ∷ 1 ∷ []) (readFrame 2 ∷ readFrame 1 ∷ readFrame 0 ∷ endCycle ∷ []) gives most 0
+    ∷ peakOf 3 (0 ∷ 0 ∷ 1 ∷ []) (readFrame 2 ∷ endCycle ∷ dropFrame 2 ∷ readFrame 0 ∷ endCycle ∷ []) gives most 1
+    -- no cycles
+    ∷ peakOf 3 (0 ∷ 0 ∷ 1 ∷ []) [] gives most 0
     -- the starred verdicts
-    ∷ checkRead 2 (0 ∷ 0 ∷ 1 ∷ []) (1 ∷ 2 ∷ 1 ∷ []) gives verdict (valid 2 1)
+    ∷ checkRead 2 (0 ∷ 0 ∷ 1 ∷ []) (1 ∷ 2 ∷ 1 ∷ []) gives verdict (valid 2 2)
+    ∷ checkRead 2 (0 ∷ 0 ∷ 1 ∷ []) (1 ∷ 2 ∷ 2 ∷ []) gives verdict (valid 2 2)
     ∷ checkRead 2 (0 ∷ 0 ∷ 1 ∷ []) (2 ∷ 1 ∷ 2 ∷ []) gives verdict (faulty 0 overfull)
-    ∷ checkRead 3 (0 ∷ 0 ∷ 1 ∷ []) (2 ∷ 1 ∷ 2 ∷ []) gives verdict (valid 2 1)
+    ∷ checkRead 3 (0 ∷ 0 ∷ 1 ∷ []) (2 ∷ 1 ∷ 2 ∷ []) gives verdict (valid 2 3)
     ∷ checkRead 1 (0 ∷ 0 ∷ 1 ∷ []) (1 ∷ 2 ∷ 2 ∷ []) gives verdict (faulty 1 overfull)
     -- the other verdicts of document 01
     ∷ checkRead 1 (0 ∷ 0 ∷ 1 ∷ []) (1 ∷ 1 ∷ 2 ∷ []) gives verdict (faulty 0 overfull)
     ∷ checkRead 2 (0 ∷ 0 ∷ 1 ∷ []) (1 ∷ 1 ∷ 2 ∷ []) gives verdict (faulty 1 sharedCard)
-    ∷ checkRead 2 (0 ∷ 0 ∷ 1 ∷ []) (1 ∷ 3 ∷ 3 ∷ []) gives verdict (valid 3 0)
+    ∷ checkRead 2 (0 ∷ 0 ∷ 1 ∷ []) (1 ∷ 3 ∷ 3 ∷ []) gives verdict (valid 3 2)
     -- of a frame's faults the first: cycle 0, then a shared card, then the pool
     ∷ checkRead 1 (0 ∷ 0 ∷ 1 ∷ []) (0 ∷ 0 ∷ 0 ∷ []) gives verdict (faulty 0 noCycle)
     ∷ checkSave 1 (0 ∷ 0 ∷ []) (1 ∷ 1 ∷ []) gives verdict (faulty 1 sharedCard)

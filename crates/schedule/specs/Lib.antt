@@ -4,5 +4,4 @@ pub mod Dock
 pub mod Drive
 pub mod Verdict
 pub mod Demand
-pub mod Closed
 pub mod Cases

@@ -28,13 +28,17 @@ oBacklog cycles i = howMany i (λ j. leb (cycleOf cycles i) (cycleOf cycles j))
 abbrev pub iBacklog : List ℕ → ℕ → ℕ
 iBacklog cycles i = howMany (length cycles) (λ j. ltb i j && leb (cycleOf cycles j) (cycleOf cycles i))
 
--- Correct for a pool of m, where `backlog` says which frames share the pool with frame i until its cycle.
-pub record Correct (backlog : List ℕ → ℕ → ℕ) (m : ℕ) (cards cycles : List ℕ) : Type 0 where
+-- "A read plan without cycle 0 or a shared card and cycle" (request 2026-05): what reads and saves have in common, whatever the pool.
+pub record Proper (cards cycles : List ℕ) : Type 0 where
   -- "A schedule gives each frame of the list a cycle number, 1 or higher"
   pub one-each : length cycles ≡ length cards
   pub from-one : (i : ℕ) → i < length cards → 1 ≤ cycleOf cycles i
   -- "no card has two frames in one cycle"
   pub card-rule : (i j : ℕ) → i < j → j < length cards → cardOf cards i ≡ cardOf cards j → cycleOf cycles i ≡ cycleOf cycles j → ⊥
+
+-- Correct for a pool of m, where `backlog` says which frames share the pool with frame i until its cycle.
+pub record Correct (backlog : List ℕ → ℕ → ℕ) (m : ℕ) (cards cycles : List ℕ) : Type 0 where
+  pub proper : Proper cards cycles
   -- "for each frame i, fewer than m .. frames have a cycle .."
   pub pool-rule : (i : ℕ) → i < length cards → backlog cycles i < m
 

@@ -12,8 +12,7 @@ use lib.ListN.{length}
 use Rattle.counting.specs.Count.{howMany}
 use Rattle.counting.specs.Frames.{cardOf}
 use Rattle.schedule.specs.Schedule.{cycleOf, cyclesIn, oBacklog, iBacklog}
-use Rattle.schedule.specs.Dock.{emptyDock}
-use Rattle.schedule.specs.Drive.{peak, stepsOf}
+use Rattle.schedule.specs.Drive.{buffersNeeded}
 
 -- "cycle 0; an earlier frame of the same card in the same cycle; too many frames in the pool"
 pub data Fault : Type 0 where
@@ -53,7 +52,7 @@ module _ (backlog : List ℕ → ℕ → ℕ) (m : ℕ) (cards cycles : List ℕ
 -- A read plan: "valid with T and, for a read, the peak of the plan's run on a dock with a buffer for every frame".
 unfoldable pub verdictOnRead : ℕ → List ℕ → List ℕ → Verdict
 verdictOnRead m cards cycles =
-    judgeFrom iBacklog m cards cycles (length cards) 0 (valid (cyclesIn cycles) (peak (length cards) cards (stepsOf cycles) emptyDock))
+    judgeFrom iBacklog m cards cycles (length cards) 0 (valid (cyclesIn cycles) (buffersNeeded cards cycles))
 
 -- A save plan: "for a save the peak is 0".
 unfoldable pub verdictOnSave : ℕ → List ℕ → List ℕ → Verdict

@@ -1,4 +1,4 @@
-// A dock written anew from document 01, "The dock", for lists of up to 8 frames on 3 cards.
+// A dock written anew from document 01, "The dock", and request 2026-05, for lists of up to 8 frames on 3 cards.
 // Steps are numbered: for a list of n frames, 0 to n - 1 read a position, the next n drop one, and every number from 2n on ends the cycle.
 use crate::lists::at;
 use crate::lists::sum;
@@ -48,10 +48,15 @@ fn read_frame(b: Bench, card: u64, p: u64) -> Bench {
     after
 }
 
-// The end of a cycle: while the next of the frames is held, it is handed over.
+// The end of a cycle: what it finds held counts for the peak, also where that is too much; while the next of the frames is held, it is handed
+// over.
 fn end_cycle(b: Bench, c: Case) -> Bench {
     let mut after = b;
-    if c.m < sum(b.held) {
+    let found = sum(b.held);
+    if b.peak < found {
+        after.peak = found;
+    }
+    if c.m < found {
         after.broken = true;
         return after;
     }
@@ -68,9 +73,6 @@ fn end_cycle(b: Bench, c: Case) -> Bench {
     after.read = 0;
     if (b.delivered < c.n) & (c.n <= after.delivered) {
         after.needed = after.ended;
-    }
-    if b.peak < sum(after.held) {
-        after.peak = sum(after.held);
     }
     after
 }

@@ -1,6 +1,7 @@
-// The product's compiled code against definitions written anew from document 01 and requests 2026-03 and 2026-04, for all lists of up to 8
-// frames on 3 cards and pools 1 to 4: every schedule of the shorter ones, also with late cycles, and the count in the pool rule of each of its
-// frames; every short list of dock steps; every saver; and every pair of short timed lists, joined. Writes what was covered and what differed.
+// The product's compiled code against definitions written anew from document 01 and requests 2026-03 to 2026-05, for all lists of up to 8 frames
+// on 3 cards and pools 1 to 4: every schedule of the shorter ones, also with late cycles, the peak of its run, and the count in the pool rule of
+// each of its frames; every short list of dock steps; every saver; and every pair of short timed lists, joined. Writes what was covered and what
+// differed.
 mod bench;
 mod greedy;
 mod joins;

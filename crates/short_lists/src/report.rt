@@ -2,7 +2,7 @@
 // An answer that is compared is one number: a list, or a number of cycles.
 use libc::STDOUT_FILENO;
 
-// Counters. Each of the first 18 has the line of its own number in the text.
+// Counters. Each of the first 19 has the line of its own number in the text.
 pub(crate) type Counts = [u64; 64];
 
 pub(crate) const LISTS: usize = 0;
@@ -23,47 +23,49 @@ pub(crate) const VERDICTS: usize = 9;
 
 pub(crate) const LATE_VERDICTS: usize = 10;
 
-pub(crate) const POOL_COUNTS: usize = 11;
+pub(crate) const PEAKS: usize = 11;
 
-pub(crate) const RUNS: usize = 12;
+pub(crate) const POOL_COUNTS: usize = 12;
 
-pub(crate) const DOCKS: usize = 13;
+pub(crate) const RUNS: usize = 13;
 
-pub(crate) const STEPS: usize = 14;
+pub(crate) const DOCKS: usize = 14;
 
-pub(crate) const SAVERS: usize = 15;
+pub(crate) const STEPS: usize = 15;
 
-pub(crate) const JOINS: usize = 16;
+pub(crate) const SAVERS: usize = 16;
 
-pub(crate) const JOINED_CYCLES: usize = 17;
+pub(crate) const JOINS: usize = 17;
 
-// There are so many topics. The counter that many places after a topic's has its differences, so 18 to 28.
-const TOPICS: usize = 11;
+pub(crate) const JOINED_CYCLES: usize = 18;
+
+// There are so many topics. The counter that many places after a topic's has its differences, so 19 to 30.
+const TOPICS: usize = 12;
 
 // The differences of all topics; and of the one that is written, the answer expected, the answer, and the schedule or steps.
-const DIFFERENCES: usize = 29;
+const DIFFERENCES: usize = 31;
 
-const EXPECTED: usize = 30;
+const EXPECTED: usize = 32;
 
-const GOT: usize = 31;
+const GOT: usize = 33;
 
-const ITEM: usize = 32;
+const ITEM: usize = 34;
 
 // The differences that were written out.
-pub(crate) const WRITTEN: usize = 33;
+pub(crate) const WRITTEN: usize = 35;
 
 // What is of no kind that is counted.
-pub(crate) const NO_KIND: usize = 34;
+pub(crate) const NO_KIND: usize = 36;
 
 // The lines after those of the counters: without differences; with some; and for the first one of a topic.
-const NONE: usize = 18;
+const NONE: usize = 19;
 
-const SOME: usize = 19;
+const SOME: usize = 20;
 
-const FIRST: usize = 20;
+const FIRST: usize = 21;
 
 // The bytes of the text.
-const LENGTH: usize = 1362;
+const LENGTH: usize = 1510;
 
 // Everything that is written, line by line. A byte from 128 on stands for the counter of its number less 128.
 fn text() -> [u8; LENGTH] {
@@ -74,20 +76,21 @@ by a shared card: \x83
 by an overfull pool: \x84
 lists of steps that hand over everything: \x85
 cycles of savers: \x86
-plans of the three modes, with greedyWriting: compared \x87, differences \x92
-read and save plans of up to 5 frames, with all schedules: compared \x88, differences \x93
-verdicts on all schedules of up to 5 frames: compared \x89, differences \x94
-verdicts on those of up to 4 frames, with cycles 8,000 times as large, and 65,531 later: compared \x8a, differences \x95
-counts of the pool rule, for each frame of those of up to 4 frames: compared \x8b, differences \x96
-runs of all schedules of up to 4 frames, and of read and save plans of up to 5: compared \x8c, differences \x97
-docks after all lists of steps, up to 8 for 1 and 2 frames, 7 for 3: compared \x8d, differences \x98
-read plans of 1 to 3 frames, whose T cycles fit, with all lists of steps: compared \x8e, differences \x99
-savers, with greedyWriting, and the refused close: compared \x8f, differences \x9a
-joined tickets, of all pairs of timed lists of up to 3 frames, pools 1 to 3: compared \x90, differences \x9b
-cycles of the joined tickets, not fewer than of either ticket: compared \x91, differences \x9c
+plans of the three modes, with greedyWriting: compared \x87, differences \x93
+read and save plans of up to 5 frames, with all schedules: compared \x88, differences \x94
+verdicts on all schedules of up to 5 frames: compared \x89, differences \x95
+verdicts on those of up to 4 frames, with cycles 8,000 times as large, and 65,531 later: compared \x8a, differences \x96
+read plans of up to 5 frames without cycle 0 or a shared card and cycle, valid exactly where the peak is within the pool: compared \x8b, differences \x97
+counts of the pool rule, for each frame of those of up to 4 frames: compared \x8c, differences \x98
+runs of all schedules of up to 4 frames, and of read and save plans of up to 5: compared \x8d, differences \x99
+docks after all lists of steps, up to 8 for 1 and 2 frames, 7 for 3: compared \x8e, differences \x9a
+read plans of 1 to 3 frames, whose T cycles fit, with all lists of steps: compared \x8f, differences \x9b
+savers, with greedyWriting, and the refused close: compared \x90, differences \x9c
+joined tickets, of all pairs of timed lists of up to 3 frames, pools 1 to 3: compared \x91, differences \x9d
+cycles of the joined tickets, not fewer than of either ticket: compared \x92, differences \x9e
 no differences
-DIFFERENCES: \x9d
-the first difference: expected \x9e, got \x9f, for \xa0 of the ticket below
+DIFFERENCES: \x9f
+the first difference: expected \xa0, got \xa1, for \xa2 of the ticket below
 "
 }
 

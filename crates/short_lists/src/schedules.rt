@@ -1,5 +1,6 @@
-// The search through all schedules of a list: which are correct, with how few cycles; and on the way the checker's verdict on each. For lists
-// of up to 4 frames also its verdict on each with late cycles, the count in the pool rule of each frame, and each one's run on the dock.
+// The search through all schedules of a list: which are correct, with how few cycles; and on the way the checker's verdict on each, and whether
+// a read's is as its peak says. For lists of up to 4 frames also its verdict on each with late cycles, the count in the pool rule of each frame,
+// and each one's run on the dock.
 use crate::greedy;
 use crate::lists;
 use crate::pools;
@@ -14,6 +15,7 @@ use crate::verdicts;
 fn compare_one(counts: &mut report::Counts, ticket: &[u8], c: Case, plan: u64) -> u64 {
     let judged = rules::own_verdict(c, plan);
     verdicts::compare_verdict(counts, ticket, c, plan, judged);
+    verdicts::compare_peak(counts, ticket, c, plan);
     if c.n < 5 {
         verdicts::compare_late(counts, ticket, c, plan, judged, false);
         verdicts::compare_late(counts, ticket, c, plan, judged, true);

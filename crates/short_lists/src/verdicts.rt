@@ -31,6 +31,13 @@ fn checked(ticket: &[u8], n: u64, cycles: [u16; 8]) -> u64 {
     verdict_of(seen)
 }
 
+// A list with a buffer for every frame.
+fn roomy(c: Case) -> Case {
+    let mut all = c;
+    all.m = c.n;
+    all
+}
+
 // The verdict that the rules give, with T as it is to be told. The peak of a read is that of the plan's run on a dock with a buffer for every
 // frame; that of a save is 0.
 fn wanted(c: Case, plan: u64, judged: Judged, t: u64) -> u64 {
@@ -39,9 +46,7 @@ fn wanted(c: Case, plan: u64, judged: Judged, t: u64) -> u64 {
     }
     let mut peak: u64 = 0;
     if c.mode == tickets::READ {
-        let mut roomy = c;
-        roomy.m = c.n;
-        let run = bench::run(roomy, plan, judged.cycles);
+        let run = bench::run(roomy(c), plan, judged.cycles);
         peak = run.peak;
     }
     verdict(rules::NO_FAULT, 0, t, peak)
@@ -62,6 +67,28 @@ pub(crate) fn compare_verdict(
         plan,
         wanted(c, plan, judged, judged.cycles),
         checked(ticket, c.n, lists::to_array(plan)),
+    );
+}
+
+// Request 2026-05: a read plan without cycle 0 or a shared card and cycle, which are all its faults where every frame has a buffer, is valid exactly
+// where the peak of its run there is within the pool.
+pub(crate) fn compare_peak(counts: &mut report::Counts, ticket: &[u8], c: Case, plan: u64) {
+    if c.mode != tickets::READ {
+        return;
+    }
+    let judged = rules::own_verdict(roomy(c), plan);
+    if judged.kind != rules::NO_FAULT {
+        return;
+    }
+    let run = bench::run(roomy(c), plan, judged.cycles);
+    let seen = checked(ticket, c.n, lists::to_array(plan));
+    report::compare(
+        counts,
+        report::PEAKS,
+        report::NO_KIND,
+        plan,
+        runs::bit(run.peak <= c.m),
+        runs::bit(lists::at(seen, 0) == rules::NO_FAULT),
     );
 }
 

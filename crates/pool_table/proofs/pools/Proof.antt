@@ -1,9 +1,6 @@
 -- `pool_table::pools` meets its contract.
 -- Assumes nothing.
 use borrow.Author.Needs.{needs}
-use mathlib.Core.Path.{ap, _∙_}
-use Rattle.counting.specs.Count.{tabulate, largest}
-use Rattle.schedule.specs.Closed.{readBefore}
 use Rattle.pool_counts.proofs.Whole.{of-save, of-read}
 use Rattle.pool_table.proofs.Adding.{zeroed, within-limit}
 use Rattle.pool_table.proofs.pools.Statement.{statement}
@@ -42,9 +39,7 @@ returns-2 c =
     let args = c .before .before .before .before .before .before .before .args in
     let read = c .before .before .before .before .before .if1 .left in
     let plan = c .before .before .before .before .before .before .before .args .plan .now in
-    let found = c .roomy2 .ensures in
-    of-read (args .save) (args .m) plan read (found .0)
-    (λ all. found .1 ∙ ap (λ n. largest (tabulate n (readBefore plan))) all)
+    of-read (args .save) (args .m) plan read (c .roomy2 .ensures)
 
 pub pools-spec : {M : Type 1} → statement M
 pools-spec =

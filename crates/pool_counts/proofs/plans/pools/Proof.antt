@@ -1,7 +1,6 @@
 -- `pool_counts::plans::pools` meets its contract.
 -- Assumes nothing.
 use borrow.Author.Needs.{needs}
-use native.Mathlib.Omega.{arith}
 use Rattle.pool_counts.proofs.Whole.{of-save, of-read}
 use Rattle.pool_counts.proofs.plans.pools.Statement.{statement}
 use Rattle.pool_counts.proofs.plans.pools.Tie as tie
@@ -19,22 +18,8 @@ roomy-read-requires c κs = search needs
 
 returns-2 : tie.Need-returns-2
 returns-2 c =
-    let args = c .before .before .before .before .args in
-    let roomy-is = c .before .roomy-read .ensures in
-    let not-all = c .if2 .taken in
-    of-read (args .save) (args .m) (args .plan .now) (c .before .before .if1 .left) roomy-is (λ all. absurd (omega (arith, not-all, all)))
-
-peak-requires : tie.Need-peak-requires
-peak-requires c κs = search needs
-
-returns-3 : tie.Need-returns-3
-returns-3 c =
-    let read = c .before .before .before .if1 .left in
-    let roomy-is = c .before .before .roomy-read .ensures in
-    let args = c .before .before .before .before .before .args in
-    of-read (args .save) (args .m) (args .plan .now) read roomy-is (λ all. c .peak .ensures)
+    let args = c .before .before .before .args in
+    of-read (args .save) (args .m) (args .plan .now) (c .before .if1 .left) (c .roomy-read .ensures)
 
 pub pools-spec : {M : Type 1} → statement M
-pools-spec =
-    tie.close
-    (tie.spec roomy-save-requires returns roomy-read-requires returns-2 peak-requires returns-3)
+pools-spec = tie.close (tie.spec roomy-save-requires returns roomy-read-requires returns-2)

@@ -3,18 +3,19 @@
 use borrow.Author.Needs.{needs}
 use Prim.Native.Nat.{_-_}
 use native.Mathlib.Omega.{arith}
-use Rattle.pool_table.proofs.ReadTurns.{TableTurn, table-first, entry-after, entry-at, place-inside, table-ends, table-ahead, table-covered, table-all}
+use Rattle.pool_counts.proofs.Frames.{ReadTurn, read-first, read-covered, read-all}
+use Rattle.pool_table.proofs.ReadTurns.{entry-after, place-inside, table-ends, table-ahead}
 use Rattle.pool_table.proofs.reads.roomy.Statement.{statement}
 use Rattle.pool_table.proofs.reads.roomy.Tie as tie
 
 abbrev Inv-loop : tie.InvT-loop
-Inv-loop plan table m n ceiling₀ before₀ i₀ ceiling before i = TableTurn m plan i ceiling before
+Inv-loop plan table m n ceiling₀ peak₀ i₀ ceiling peak i = ReadTurn m plan i ceiling peak
 
 abbrev μ-loop : tie.MeasureT-loop
-μ-loop plan table m n ceiling₀ before₀ i₀ ceiling before i = n - i
+μ-loop plan table m n ceiling₀ peak₀ i₀ ceiling peak i = n - i
 
 loop-holds : tie.Need-loop-holds Inv-loop μ-loop
-loop-holds c = table-first _ _
+loop-holds c = read-first _ _
 
 mul-cycle : tie.Need-mul-cycle Inv-loop μ-loop
 mul-cycle c = search needs
@@ -31,22 +32,22 @@ cast-at c = search needs
 add-i : tie.Need-add-i Inv-loop μ-loop
 add-i c = search needs
 
-add-if2 : tie.Need-add-if2 Inv-loop μ-loop
-add-if2 c =
+add-needed : tie.Need-add-needed Inv-loop μ-loop
+add-needed c =
     let table = c .before .before .before .before .before .before .before .pre in
     let inside = c .before .before .before .loop-test .taken in
     let place = place-inside (c .before .before .before .before .loop .inv) inside (c .before .cycle-index .ensures) table (c .if1 .taken) in
     omega (arith, place, table .long)
 
-mul-if2 : tie.Need-mul-if2 Inv-loop μ-loop
-mul-if2 c =
+mul-needed : tie.Need-mul-needed Inv-loop μ-loop
+mul-needed c =
     let table = c .before .before .before .before .before .before .before .pre in
     let inside = c .before .before .before .loop-test .taken in
     let place = place-inside (c .before .before .before .before .loop .inv) inside (c .before .cycle-index .ensures) table (c .if1 .taken) in
     omega (arith, place, table .long)
 
-shared-slice-read-if2 : tie.Need-shared-slice-read-if2 Inv-loop μ-loop
-shared-slice-read-if2 c =
+shared-slice-read-needed : tie.Need-shared-slice-read-needed Inv-loop μ-loop
+shared-slice-read-needed c =
     let inv = c .before .before .before .before .before .loop .inv in
     let place-is = c .before .before .cycle-index .ensures in
     let table = c .before .before .before .before .before .before .before .before .pre in
@@ -54,17 +55,8 @@ shared-slice-read-if2 c =
     let inside = c .before .before .before .before .loop-test .taken in
     place-inside inv inside place-is table ahead
 
-sub-if2 : tie.Need-sub-if2 Inv-loop μ-loop
-sub-if2 c =
-    let inv = c .before .before .before .before .before .loop .inv in
-    let place-is = c .before .before .cycle-index .ensures in
-    let table = c .before .before .before .before .before .before .before .before .pre in
-    let ahead = c .before .if1 .taken in
-    let inside = c .before .before .before .before .loop-test .taken in
-    omega (arith, entry-after inv inside place-is table ahead)
-
-sub-if2-2 : tie.Need-sub-if2-2 Inv-loop μ-loop
-sub-if2-2 c =
+sub-needed : tie.Need-sub-needed Inv-loop μ-loop
+sub-needed c =
     let inv = c .before .before .before .before .before .loop .inv in
     let place-is = c .before .before .cycle-index .ensures in
     let table = c .before .before .before .before .before .before .before .before .pre in
@@ -79,7 +71,7 @@ returns c =
     let ahead = c .before .before .if1 .taken in
     let inv = c .before .before .before .before .before .before .loop .inv in
     let inside = c .before .before .before .before .before .loop-test .taken in
-    (table-ends inv inside place-is table ahead (c .if2 .taken), inv .before-is)
+    (table-ends inv inside place-is table ahead (c .if2 .taken), inv .so-far)
 
 add-ceiling : tie.Need-add-ceiling Inv-loop μ-loop
 add-ceiling c =
@@ -91,34 +83,6 @@ add-ceiling c =
     let place = place-inside inv inside place-is table ahead in
     omega (arith, place, table .long)
 
-mul-larger : tie.Need-mul-larger Inv-loop μ-loop
-mul-larger c =
-    let inv = c .before .before .before .before .before .before .loop .inv in
-    let place-is = c .before .before .before .cycle-index .ensures in
-    let ahead = c .before .before .if1 .taken in
-    let table = c .before .before .before .before .before .before .before .before .before .pre in
-    let inside = c .before .before .before .before .before .loop-test .taken in
-    let place = place-inside inv inside place-is table ahead in
-    omega (arith, place, table .long)
-
-shared-slice-read-larger : tie.Need-shared-slice-read-larger Inv-loop μ-loop
-shared-slice-read-larger c =
-    let inv = c .before .before .before .before .before .before .before .loop .inv in
-    let place-is = c .before .before .before .before .cycle-index .ensures in
-    let table = c .before .before .before .before .before .before .before .before .before .before .pre in
-    let ahead = c .before .before .before .if1 .taken in
-    let inside = c .before .before .before .before .before .before .loop-test .taken in
-    omega (arith, place-inside inv inside place-is table ahead)
-
-sub-larger : tie.Need-sub-larger Inv-loop μ-loop
-sub-larger c =
-    let inv = c .before .before .before .before .before .before .before .loop .inv in
-    let place-is = c .before .before .before .before .cycle-index .ensures in
-    let table = c .before .before .before .before .before .before .before .before .before .before .pre in
-    let ahead = c .before .before .before .if1 .taken in
-    let inside = c .before .before .before .before .before .before .loop-test .taken in
-    omega (arith, entry-at inv inside place-is table ahead)
-
 larger-requires : tie.Need-larger-requires Inv-loop μ-loop
 larger-requires c κs = search needs
 
@@ -127,12 +91,12 @@ loop-less c = search needs
 
 loop-again : tie.Need-loop-again Inv-loop μ-loop
 loop-again c =
-    let inv = c .before .before .before .before .before .before .before .before .loop .inv in
-    let table = c .before .before .before .before .before .before .before .before .before .before .before .pre in
-    let ahead = c .before .before .before .before .if1 .taken in
-    let room = c .before .before .if2 .left in
-    let inside = c .before .before .before .before .before .before .before .loop-test .taken in
-    let place-is = c .before .before .before .before .before .cycle-index .ensures in
+    let inv = c .before .before .before .before .before .before .before .loop .inv in
+    let table = c .before .before .before .before .before .before .before .before .before .before .pre in
+    let ahead = c .before .before .before .if1 .taken in
+    let room = c .before .if2 .left in
+    let inside = c .before .before .before .before .before .before .loop-test .taken in
+    let place-is = c .before .before .before .before .cycle-index .ensures in
     table-ahead inv inside place-is table ahead room (c .larger .ensures)
 
 loop-less-2 : tie.Need-loop-less-2 Inv-loop μ-loop
@@ -141,10 +105,10 @@ loop-less-2 c = search needs
 loop-again-2 : tie.Need-loop-again-2 Inv-loop μ-loop
 loop-again-2 c =
     let inside = c .before .before .before .loop-test .taken in
-    table-covered (c .before .before .before .before .loop .inv) inside (c .before .cycle-index .ensures) (c .if1 .left)
+    read-covered (c .before .before .before .before .loop .inv) inside (c .before .cycle-index .ensures) (c .if1 .left)
 
 returns-2 : tie.Need-returns-2 Inv-loop μ-loop
-returns-2 c = table-all (c .before .loop .inv) (c .loop-test .left)
+returns-2 c = read-all (c .before .loop .inv) (c .loop-test .left)
 
 pub roomy-spec : {M : Type 1} → statement M
 roomy-spec =
@@ -158,16 +122,12 @@ roomy-spec =
     cycle-index-requires
     cast-at
     add-i
-    add-if2
-    mul-if2
-    shared-slice-read-if2
-    sub-if2
-    sub-if2-2
+    add-needed
+    mul-needed
+    shared-slice-read-needed
+    sub-needed
     returns
     add-ceiling
-    mul-larger
-    shared-slice-read-larger
-    sub-larger
     larger-requires
     loop-less
     loop-again

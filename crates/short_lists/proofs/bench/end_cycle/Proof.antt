@@ -6,10 +6,10 @@ use Rattle.short_lists.proofs.bench.end_cycle.Statement.{statement}
 use Rattle.short_lists.proofs.bench.end_cycle.Tie as tie
 
 abbrev Inv-loop : tie.InvT-loop
-Inv-loop b c after₀ p₀ after p = p ≤ 8
+Inv-loop b c found after₀ p₀ after p = p ≤ 8
 
 abbrev μ-loop : tie.MeasureT-loop
-μ-loop b c after₀ p₀ after p = 8 - p
+μ-loop b c found after₀ p₀ after p = 8 - p
 
 sum-requires : tie.Need-sum-requires Inv-loop μ-loop
 sum-requires c κs = search needs
@@ -41,12 +41,6 @@ loop-again c = search needs
 wrapping-add-u64-requires : tie.Need-wrapping-add-u64-requires Inv-loop μ-loop
 wrapping-add-u64-requires c κs = search needs
 
-sum-requires-2 : tie.Need-sum-requires-2 Inv-loop μ-loop
-sum-requires-2 c κs = search needs
-
-sum-requires-3 : tie.Need-sum-requires-3 Inv-loop μ-loop
-sum-requires-3 c κs = search needs
-
 returns-2 : tie.Need-returns-2 Inv-loop μ-loop
 returns-2 c = search needs
 
@@ -69,7 +63,5 @@ end-cycle-spec =
     loop-less
     loop-again
     wrapping-add-u64-requires
-    sum-requires-2
-    sum-requires-3
     returns-2
     returns-3)
