@@ -102,11 +102,23 @@ before-or-that x c =
           ])
     ]
 
-pub both-after : (x c : ℕ) → bit (ltb (suc x) (suc c)) ≡ bit (ltb x c)
-both-after x c =
-    elim (decLt x c) [
-      | yes l ↦ rw (lt-ltb x c l, lt-ltb (suc x) (suc c) (omega arith))
-      | no l ↦ rw (le-ltb x c (omega arith), le-ltb (suc x) (suc c) (omega arith))
+pub up-to-splits : (x c : ℕ) → bit (leb x c) ≡ bit (ltb x c) + bit (eqb x c)
+up-to-splits x c =
+    elim (ℕ-discrete x c) [
+      | yes e ↦ rw (eq-eqb x c e, le-leb x c (omega arith), le-ltb x c (omega arith))
+      | no e ↦
+          rw (ne-eqb x c e)
+          (elim (decLt x c) [
+            | yes l ↦ rw (lt-ltb x c l, le-leb x c (omega arith))
+            | no l ↦ rw (le-ltb x c (omega arith), lt-leb x c (omega arith))
+          ])
+    ]
+
+pub before-next : (x c : ℕ) → bit (ltb x (suc c)) ≡ bit (leb x c)
+before-next x c =
+    elim (decLe x c) [
+      | yes l ↦ rw (le-leb x c l, lt-ltb x (suc c) (omega arith))
+      | no l ↦ rw (lt-leb x c (omega arith), le-ltb x (suc c) (omega arith))
     ]
 
 pub leb-none : (n : ℕ) → leb n 0 ≡ eqb n 0

@@ -16,23 +16,22 @@ use Rattle.pool_table.proofs.Ahead.{backlog-ahead}
 module _
     {m : ℕ} {cycles table : List ℕ} {i ceiling peak c top : ℕ} (v : ReadTurn m cycles i ceiling peak) (l : i < length cycles)
     (c-is : c ≡ cycleOf cycles i) (t : Table cycles table top) (h : ceiling ≤ c) where
-  pub place-inside : c + 1 < length table
+  pub place-inside : c < length table
   place-inside = omega (arith, t .long, t .low .top-low, t .low .up-to-top i l)
 
-  pub entry-after : getD table (c + 1) 0 ≡ i + buffersFor cycles i
-  entry-after =
-      let e : c + 1 ≡ suc (cycleOf cycles i) = omega arith in
-      rw e
+  pub entry-is : getD table c 0 ≡ i + buffersFor cycles i
+  entry-is =
+      rw c-is
       (omega (
         arith,
-        t .entries (suc (cycleOf cycles i)) (omega (arith, t .low .up-to-top i l)),
+        t .entries (cycleOf cycles i) (t .low .up-to-top i l),
         backlog-ahead cycles i l (ahead (v .heights) c-is h),
       ))
 
   -- the frame needs more buffers than the pool has
-  pub table-ends : m < getD table (c + 1) 0 - i → i ≡ roomyOf false m cycles
-  table-ends g = roomy-ends (v .roomy) l (omega (arith, g, entry-after))
+  pub table-ends : m < getD table c 0 - i → i ≡ roomyOf false m cycles
+  table-ends g = roomy-ends (v .roomy) l (omega (arith, g, entry-is))
 
   -- or not
-  pub table-ahead : getD table (c + 1) 0 - i ≤ m → {p : ℕ} → p ≡ max peak (getD table (c + 1) 0 - i) → ReadTurn m cycles (i + 1) (c + 1) p
-  table-ahead g p-is = read-ahead v l c-is h (omega (arith, g, entry-after)) (omega (arith, p-is, entry-after))
+  pub table-ahead : getD table c 0 - i ≤ m → {p : ℕ} → p ≡ max peak (getD table c 0 - i) → ReadTurn m cycles (i + 1) (c + 1) p
+  table-ahead g p-is = read-ahead v l c-is h (omega (arith, g, entry-is)) (omega (arith, p-is, entry-is))

@@ -20,7 +20,7 @@ pub fn pools(save: bool, plan: &[u16], top: Cycle, m: u16) -> Room
     ensures roomy { λ r. ⌜ r .roomy ≡ roomyOf save m (now (plan .entry)) ⌝ }
     ensures peak { λ r. ⌜ (r .roomy ≡ length (now (plan .entry)) → r .peak ≡ peakOf save (now (plan .entry))) ⌝ }
 {
-    let mut table = [0u16; limits::FRAMES + 2];
+    let mut table = [0u16; limits::FRAMES + 1];
     if save {
         let found = saves::roomy(plan, m, &mut table);
         return Room {

@@ -1,4 +1,4 @@
-// The pools of a read plan, from the table of how many frames come before each cycle.
+// The pools of a read plan, from the table of how many frames have a cycle up to each cycle.
 // A frame that is not ahead of all earlier ones has no larger count than one of those. So the lowest overfull frame is ahead of all earlier
 // ones, and there what it needs, a buffer for itself and one for each frame that counts, is a difference of the table's entry and its position.
 ghost use mathlib.Core.Path.{_≡_};
@@ -27,7 +27,7 @@ pub(crate) fn roomy(plan: &[u16], top: Cycle, table: &[u16], m: u16) -> Room
         let at = i as u16;
         i += 1;
         if ceiling <= c {
-            let needed = table[c + 1] - at;
+            let needed = table[c] - at;
             if m < needed {
                 return Room {
                     roomy: k,

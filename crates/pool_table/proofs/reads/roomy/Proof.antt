@@ -4,7 +4,7 @@ use borrow.Author.Needs.{needs}
 use Prim.Native.Nat.{_-_}
 use native.Mathlib.Omega.{arith}
 use Rattle.pool_counts.proofs.Frames.{ReadTurn, read-first, read-covered, read-all}
-use Rattle.pool_table.proofs.ReadTurns.{entry-after, place-inside, table-ends, table-ahead}
+use Rattle.pool_table.proofs.ReadTurns.{entry-is, place-inside, table-ends, table-ahead}
 use Rattle.pool_table.proofs.reads.roomy.Statement.{statement}
 use Rattle.pool_table.proofs.reads.roomy.Tie as tie
 
@@ -32,13 +32,6 @@ cast-at c = search needs
 add-i : tie.Need-add-i Inv-loop μ-loop
 add-i c = search needs
 
-add-needed : tie.Need-add-needed Inv-loop μ-loop
-add-needed c =
-    let table = c .before .before .before .before .before .before .before .pre in
-    let inside = c .before .before .before .loop-test .taken in
-    let place = place-inside (c .before .before .before .before .loop .inv) inside (c .before .cycle-index .ensures) table (c .if1 .taken) in
-    omega (arith, place, table .long)
-
 mul-needed : tie.Need-mul-needed Inv-loop μ-loop
 mul-needed c =
     let table = c .before .before .before .before .before .before .before .pre in
@@ -62,7 +55,7 @@ sub-needed c =
     let table = c .before .before .before .before .before .before .before .before .pre in
     let ahead = c .before .if1 .taken in
     let inside = c .before .before .before .before .loop-test .taken in
-    omega (arith, entry-after inv inside place-is table ahead)
+    omega (arith, entry-is inv inside place-is table ahead)
 
 returns : tie.Need-returns Inv-loop μ-loop
 returns c =
@@ -122,7 +115,6 @@ roomy-spec =
     cycle-index-requires
     cast-at
     add-i
-    add-needed
     mul-needed
     shared-slice-read-needed
     sub-needed

@@ -25,7 +25,12 @@ mul-wide : tie.Need-mul-wide Inv-loop μ-loop
 mul-wide c = search needs
 
 slice-read-wide : tie.Need-slice-read-wide Inv-loop μ-loop
-slice-read-wide c = search needs
+slice-read-wide c =
+    let inv = c .before .before .before .loop .inv in
+    let pre = c .before .before .before .before .before .before .before .pre in
+    let pool-is = c .before .before .before .before .wide .ensures in
+    let many-after = c .before .if1 .taken in
+    omega (arith, inv .long, full-below inv (pre .1) (pre .2) (omega (arith, pool-is, many-after)))
 
 wide-requires-2 : tie.Need-wide-requires-2 Inv-loop μ-loop
 wide-requires-2 c κs = search needs

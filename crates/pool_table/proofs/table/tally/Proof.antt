@@ -26,13 +26,6 @@ shared-slice-read-cycle c = search needs
 cycle-index-requires : tie.Need-cycle-index-requires Inv-loop μ-loop
 cycle-index-requires c κs = search needs
 
-add-c : tie.Need-add-c Inv-loop μ-loop
-add-c c =
-    let inv = c .before .before .before .loop .inv in
-    let low = c .before .before .before .before .before .before .pre .1 in
-    let inside = c .before .before .loop-test .taken in
-    omega (arith, tally-place inv low inside (c .cycle-index .ensures))
-
 mul-table : tie.Need-mul-table Inv-loop μ-loop
 mul-table c =
     let inv = c .before .before .before .loop .inv in
@@ -102,7 +95,6 @@ tally-spec =
     mul-cycle
     shared-slice-read-cycle
     cycle-index-requires
-    add-c
     mul-table
     slice-read-table
     add-table
