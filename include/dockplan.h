@@ -56,8 +56,8 @@
 extern "C" {
 #endif
 
-/* The version of this header: 104 for 1.4. It grows whenever a call is added or changed, or uses more stack. */
-#define DOCKPLAN_VERSION 104
+/* The version of this header: 105 for 1.5. It grows whenever a call is added or changed, or uses more stack. */
+#define DOCKPLAN_VERSION 105
 
 /* The version of the archive. Header and archive belong together exactly when this is DOCKPLAN_VERSION. */
 uint32_t dockplan_version(void);
@@ -183,8 +183,9 @@ dockplan_join_answer dockplan_join(const uint8_t *first, size_t first_bytes, con
 #define DOCKPLAN_OVERFULL 4    /* too many frames in the pool */
 
 /* A verdict. T and the peak come with a valid plan, the position with a fault; they are 0 otherwise. The peak of a
- * read plan is the most frames held right after the end of a cycle, on a dock with a buffer for every frame; a
- * save's is 0. */
+ * read plan is the most frames held right after the reads of a cycle, before handing over, on a dock with a buffer
+ * for every frame: the buffers that it needs. The plan is valid for every pool from its peak on, and for no smaller
+ * one. A save's peak is 0. */
 typedef struct {
     uint8_t refusal;
     uint8_t verdict;
@@ -201,7 +202,8 @@ dockplan_check_answer dockplan_check(const uint8_t *ticket, size_t bytes, const 
 
 /* A plan's run on the dock: whether a step was against the rules (broken), the frames handed over, the cycles that
  * ended, whether all frames were handed over (complete; with no frames they are) and the cycles needed for it, 0 if
- * not, and the most frames held right after a cycle that ended. */
+ * not, and the peak, the most frames held right after the reads of a cycle. It is above the ticket's pool just where
+ * the run broke off at the end of a cycle that found more frames held than there are buffers. */
 typedef struct {
     uint8_t refusal;
     bool broken;
@@ -216,7 +218,7 @@ typedef struct {
  * list order, then the end of the cycle. A step against the rules breaks the run off. The ticket's mode is not looked
  * at. Refusals 1 to 9 and 17, then 11 where `places` is not L. */
 dockplan_run_answer dockplan_run_plan(const uint8_t *ticket, size_t bytes, const uint16_t *plan, size_t places);
-#define DOCKPLAN_STACK_RUN_PLAN 23392
+#define DOCKPLAN_STACK_RUN_PLAN 23408
 
 /* ---- The saver: frames saved as they come -------------------------------------------------------------------- */
 

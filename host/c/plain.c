@@ -484,25 +484,27 @@ static dockplan_check_answer fault(unsigned verdict, size_t position)
 }
 
 /* A read, frame by frame. Of two frames, the earlier one has more frames in its pool unless its cycle is smaller. So the first frame with too many,
- * and one with the peak, have a larger cycle than every frame before them; and there each count is a matter of all frames of the plan.
- *   before[s]  how many frames of the plan have a cycle before s
- *   highest    the largest cycle so far */
+ * and one with the peak, have a larger cycle than every frame before them; and there its pool, with the frame itself, has all frames with a cycle
+ * up to its own but for those before it.
+ *   up_to[s]  how many frames of the plan have a cycle up to s
+ *   highest   the largest cycle so far
+ *   peak      the most frames in a pool so far, with the frame itself */
 struct read_pools {
-    uint16_t before[MAX_TABLE_CYCLE + 2];
+    uint16_t up_to[MAX_TABLE_CYCLE + 1];
     unsigned highest;
     unsigned peak;
 };
 
 static void start_read(struct read_pools *pools, const struct foreign_plan *plan)
 {
-    memset(pools->before, 0, (plan->top + 2) * sizeof pools->before[0]);
+    memset(pools->up_to, 0, (plan->top + 1) * sizeof pools->up_to[0]);
     for (size_t i = 0; i < plan->frames; i++) {
-        pools->before[plan->cycle[i] + 1]++;
+        pools->up_to[plan->cycle[i]]++;
     }
     unsigned sum = 0;
-    for (size_t s = 0; s < plan->top + 2; s++) {
-        sum += pools->before[s];
-        pools->before[s] = (uint16_t)sum;
+    for (size_t s = 0; s < plan->top + 1; s++) {
+        sum += pools->up_to[s];
+        pools->up_to[s] = (uint16_t)sum;
     }
     pools->highest = 0;
     pools->peak = 0;
@@ -511,14 +513,12 @@ static void start_read(struct read_pools *pools, const struct foreign_plan *plan
 /* Takes the next frame, and answers whether it is the first with too many frames in its pool. */
 static inline bool read_overfull(struct read_pools *pools, unsigned cycle, size_t i, unsigned pool)
 {
-    if (cycle > pools->highest) {
-        if (pools->before[cycle + 1] - i - 1 >= pool) {
-            return true;
-        }
-        pools->highest = cycle;
-        pools->peak = larger(pools->peak, pools->before[cycle] - (unsigned)i);
+    if (cycle <= pools->highest) {
+        return false;
     }
-    return false;
+    pools->highest = cycle;
+    pools->peak = larger(pools->peak, pools->up_to[cycle] - (unsigned)i);
+    return pools->peak > pool;
 }
 
 /* A save, frame by frame. A frame has too many frames in its pool exactly when its cycle is not after `full`.
@@ -654,10 +654,10 @@ static dockplan_check_answer count_read(const struct foreign_plan *plan, unsigne
         }
         if (plan->cycle[i] > highest) {
             highest = plan->cycle[i];
-            if (frames_before(plan, highest + 1) - i - 1 >= pool) {
+            peak = larger(peak, frames_before(plan, highest + 1) - (unsigned)i);
+            if (peak > pool) {
                 return fault(DOCKPLAN_OVERFULL, i);
             }
-            peak = larger(peak, frames_before(plan, highest) - (unsigned)i);
         }
     }
     return valid(plan->top, peak);

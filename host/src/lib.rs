@@ -109,7 +109,8 @@ pub fn join(first: &[u8], second: &[u8], out: &mut [u8]) -> Result<usize, Refusa
 /// What the checker says of a plan: valid, or the lowest position at fault with the first of its faults.
 #[derive(Clone, Copy, Debug, PartialEq, Eq)]
 pub enum Verdict {
-    /// A correct schedule of that many cycles. The peak of a save is 0.
+    /// A correct schedule of that many cycles. The peak of a read is the most frames held right after the reads of a cycle,
+    /// which is how many buffers it needs; that of a save is 0.
     Valid { cycles: Cycle, peak: u16 },
     /// The frame has cycle 0.
     NoCycle(Position),
@@ -147,7 +148,8 @@ pub struct Run {
     pub ended: Cycle,
     /// The cycles needed to hand over all frames, or none where that was not reached.
     pub needed: Option<Cycle>,
-    /// The most frames held right after the end of a cycle.
+    /// The most frames held right after the reads of a cycle, before handing over. It is above the pool exactly where the
+    /// run broke off at an end of a cycle.
     pub peak: u16,
 }
 

@@ -2,7 +2,7 @@
 //! The default of an answer is all zeros, as beside a refusal.
 
 /// The version of the header that this file repeats.
-pub const VERSION: u32 = 104;
+pub const VERSION: u32 = 105;
 
 /// A cycle, counted from 1.
 #[repr(C)]

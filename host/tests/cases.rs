@@ -103,9 +103,11 @@ enum Expected {
 
 use Expected::{Overfull, SharedCard, Valid};
 
-/// Read list 0 0 1: the pool m, the plan, and what the checker says.
-const CHECKS: [(usize, [u16; 3], Expected); 7] = [
-    (2, [1, 2, 1], Valid(Some(2), Some(1))),
+/// Read list 0 0 1: the pool m, the plan, and what the checker says. "Read list 0 0 1 with plan 1 2 2 has peak 2, and plan 1
+/// 2 1 also."
+const CHECKS: [(usize, [u16; 3], Expected); 8] = [
+    (2, [1, 2, 2], Valid(None, Some(2))),
+    (2, [1, 2, 1], Valid(Some(2), Some(2))),
     (2, [2, 1, 2], Overfull(0)),
     (3, [2, 1, 2], Valid(None, None)),
     (1, [1, 2, 2], Overfull(1)),

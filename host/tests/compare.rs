@@ -19,6 +19,9 @@ const TICKETS: u64 = 120_000 / PARTS;
 const FOR_CHECKER: u64 = 6_000 / PARTS;
 const LONG_FOR_CHECKER: u64 = 12 / PARTS;
 const PLANS_FOR_CHECKER: u64 = 10;
+/// Read plans that are tried with pools around their peak: short ones, and ones of as many frames as there are buffers.
+const FOR_POOLS: u64 = 20_000 / PARTS;
+const LONG_FOR_POOLS: u64 = 200 / PARTS;
 const SAVER_SEQUENCES: u64 = 3_000 / PARTS;
 const FULL_SAVERS: u64 = 20 / PARTS;
 const PAIRS: u64 = 80_000 / PARTS;
@@ -61,6 +64,13 @@ fn compare_part(seed: u64) -> Tally {
     for _ in 0..PAIRS {
         let pair = pairs::any(&mut random);
         same::joining::compare(&mut random, &pair, &mut tally);
+    }
+    for _ in 0..FOR_POOLS {
+        let frames = random.between(1, 120);
+        same::peaks::compare_pools(&mut random, frames, &mut tally);
+    }
+    for _ in 0..LONG_FOR_POOLS {
+        same::peaks::compare_pools(&mut random, 1024, &mut tally);
     }
     tally
 }

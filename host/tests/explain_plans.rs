@@ -32,7 +32,7 @@ fn at_fault(ticket: &str, plan: impl AsRef<[u8]>, expected: &[&str]) {
     plan_says(ticket, plan, false, &[&["a.plan: at fault"], expected].concat());
 }
 
-/// Valid plans, as short as can be and longer.
+/// Valid plans, as short as can be and longer. A read needs as many buffers as it has frames held at once; a save has no peak.
 #[test]
 fn valid_plans() {
     valid(
@@ -40,7 +40,7 @@ fn valid_plans() {
         "0002\n0000000001\n0001000002\n0002010001\n",
         &[
             "  It has 2 cycles, and no plan has fewer.",
-            "  Its peak, the most frames held right after a cycle, is 1.",
+            "  It needs 2 buffers. That is its peak, the most frames held right after the reads of a cycle.",
         ],
     );
     valid(
@@ -48,7 +48,23 @@ fn valid_plans() {
         "0003\n0000000001\n0001000003\n0002010003\n",
         &[
             "  It has 3 cycles. The shortest plan has 2.",
-            "  Its peak, the most frames held right after a cycle, is 0.",
+            "  It needs 2 buffers. That is its peak, the most frames held right after the reads of a cycle.",
+        ],
+    );
+    valid(
+        FIRST,
+        "0003\n0000000001\n0001000002\n0002010003\n",
+        &[
+            "  It has 3 cycles. The shortest plan has 2.",
+            "  It needs 1 buffer. That is its peak, the most frames held right after the reads of a cycle.",
+        ],
+    );
+    valid(
+        "01000200020000\n",
+        "0000\n",
+        &[
+            "  It has 0 cycles, and no plan has fewer.",
+            "  It needs 0 buffers. That is its peak, the most frames held right after the reads of a cycle.",
         ],
     );
     valid(
@@ -66,7 +82,7 @@ fn either_case() {
         "0002\n00000b0001\n00010B0002\n00020a0002\n",
         &[
             "  It has 2 cycles, and no plan has fewer.",
-            "  Its peak, the most frames held right after a cycle, is 0.",
+            "  It needs 2 buffers. That is its peak, the most frames held right after the reads of a cycle.",
         ],
     );
 }
@@ -80,7 +96,7 @@ fn beside_seconds() {
         "0002\n0000000001\n0001000002\n0002010002\n",
         &[
             "  It has 2 cycles, and no plan has fewer.",
-            "  Its peak, the most frames held right after a cycle, is 0.",
+            "  It needs 2 buffers. That is its peak, the most frames held right after the reads of a cycle.",
         ],
     );
     at_fault(

@@ -27,6 +27,11 @@ fn valid(cycles: u16, peak: u16) -> Verdict {
     }
 }
 
+/// Valid in this mode. The peak of a save is 0.
+fn valid_in(mode: u8, cycles: u16, peak_of_read: u16) -> Verdict {
+    valid(cycles, if mode == READ { peak_of_read } else { 0 })
+}
+
 fn no_cycle(position: u16) -> Verdict {
     Verdict::NoCycle(Position(position))
 }
@@ -114,9 +119,9 @@ fn cycle_0_in_the_pools_of_others() {
 /// A pool that is just full, and one that has a frame too many.
 #[test]
 fn just_full() {
-    is_at_every_top(READ, 2, &[0, 1, 2], &[2, 1, 3], valid(3, 1));
+    is_at_every_top(READ, 2, &[0, 1, 2], &[2, 1, 3], valid(3, 2));
     is_at_every_top(READ, 2, &[0, 1, 2], &[2, 1, 2], overfull(0));
-    is_at_every_top(READ, 2, &[0, 1, 2, 3], &[1, 9, 5, 10], valid(10, 1));
+    is_at_every_top(READ, 2, &[0, 1, 2, 3], &[1, 9, 5, 10], valid(10, 2));
     is_at_every_top(READ, 2, &[0, 1, 2, 3], &[1, 9, 5, 9], overfull(1));
     is_at_every_top(SAVE, 2, &[0, 1, 2], &[1, 3, 2], valid(3, 0));
     is_at_every_top(SAVE, 2, &[0, 1, 2], &[2, 3, 2], overfull(2));
@@ -126,20 +131,45 @@ fn just_full() {
     is_at_every_top(SAVE, 2, &[0, 1, 2, 3, 4], &[1, 9, 5, 6, 6], overfull(4));
 }
 
+/// The list and plan of a read, its peak, and the position at fault with one buffer less. Frames that are handed over in a
+/// cycle are among those held right after its reads.
+const PEAKS: [(&[u8], &[u16], u16, u16); 8] = [
+    (&[0, 0, 1], &[1, 2, 2], 2, 1),
+    (&[0, 0, 1], &[1, 2, 1], 2, 0),
+    (&[0, 0, 1], &[2, 1, 2], 3, 0),
+    (&[0, 1, 2, 3], &[1, 1, 1, 1], 4, 0),
+    (&[0, 1, 2, 3, 0], &[1, 2, 2, 2, 3], 3, 1),
+    (&[0, 0, 0, 1, 1], &[1, 3, 2, 3, 5], 3, 1),
+    (&[0, 0, 0, 1], &[1, 5, 9, 9], 2, 2),
+    (&[0, 1, 2, 3, 4, 5], &[2, 1, 3, 4, 3, 3], 3, 2),
+];
+
+/// "Valid for pool m exactly when the peak of its run, on a dock with a buffer for every frame, is at most m."
+#[test]
+fn pool_as_large_as_the_peak() {
+    for (list, plan, peak, position) in PEAKS {
+        let top = plan.iter().copied().max().unwrap_or(0);
+        let m = usize::from(peak);
+        is_at_every_top(READ, m - 1, list, plan, overfull(position));
+        for m in [m, m + 1, 1024] {
+            is_at_every_top(READ, m, list, plan, valid(top, peak));
+        }
+    }
+}
+
 /// A card whose cycles fall may still use each once; another card's frame in the same cycle is no fault.
 #[test]
 fn cards_that_fall_back() {
     for mode in BOTH {
-        let peak = |of_read| if mode == READ { of_read } else { 0 };
-        is_at_every_top(mode, 3, &[0, 0, 0], &[3, 2, 1], valid(3, peak(2)));
-        is_at_every_top(mode, 4, &[0, 1, 0, 1], &[2, 2, 1, 1], valid(2, peak(2)));
-        is_at_every_top(mode, 4, &[0, 1, 0, 1], &[2, 1, 1, 2], valid(2, peak(2)));
+        is_at_every_top(mode, 3, &[0, 0, 0], &[3, 2, 1], valid_in(mode, 3, 3));
+        is_at_every_top(mode, 4, &[0, 1, 0, 1], &[2, 2, 1, 1], valid_in(mode, 2, 4));
+        is_at_every_top(mode, 4, &[0, 1, 0, 1], &[2, 1, 1, 2], valid_in(mode, 2, 4));
         is_at_every_top(mode, 4, &[0, 1, 0, 1], &[2, 1, 1, 1], shared_card(3));
         for cycle in 1..=3 {
             is_at_every_top(mode, 4, &[0, 0, 0, 0], &[3, 1, 2, cycle], shared_card(3));
         }
         is_at_every_top(mode, 4, &[31, 30, 31, 30], &[2, 1, 1, 1], shared_card(3));
-        is_at_every_top(mode, 4, &[0, 31, 0, 31], &[2, 2, 1, 1], valid(2, peak(2)));
+        is_at_every_top(mode, 4, &[0, 31, 0, 31], &[2, 2, 1, 1], valid_in(mode, 2, 4));
     }
 }
 
@@ -148,7 +178,7 @@ fn cards_that_fall_back() {
 fn all_cards() {
     let list: Vec<u8> = (0..32).chain(0..32).collect();
     let falling = [[2; 32], [1; 32]].concat();
-    is_at_every_top(READ, 64, &list, &falling, valid(2, 32));
+    is_at_every_top(READ, 64, &list, &falling, valid(2, 64));
     is_at_every_top(SAVE, 64, &list, &falling, valid(2, 0));
     for position in 32..64 {
         let mut plan = falling.clone();
@@ -182,7 +212,7 @@ fn one_card_and_one_cycle() {
 fn one_frame() {
     for mode in BOTH {
         for m in [1, 1024] {
-            is_at_every_top(mode, m, &[0], &[1], valid(1, 0));
+            is_at_every_top(mode, m, &[0], &[1], valid_in(mode, 1, 1));
             is(mode, m, &[0], &[0], no_cycle(0));
         }
     }
@@ -192,8 +222,8 @@ fn one_frame() {
 fn two_frames() {
     for list in [[0, 0], [0, 1]] {
         for mode in BOTH {
-            is_at_every_top(mode, 1, &list, &[1, 2], valid(2, 0));
-            is_at_every_top(mode, 2, &list, &[2, 1], valid(2, if mode == READ { 1 } else { 0 }));
+            is_at_every_top(mode, 1, &list, &[1, 2], valid_in(mode, 2, 1));
+            is_at_every_top(mode, 2, &list, &[2, 1], valid_in(mode, 2, 2));
         }
         is_at_every_top(READ, 1, &list, &[2, 1], overfull(0));
         is_at_every_top(SAVE, 1, &list, &[2, 1], overfull(1));
@@ -204,7 +234,7 @@ fn two_frames() {
     is_at_every_top(READ, 1, &[0, 1], &[1, 1], overfull(0));
     is_at_every_top(SAVE, 1, &[0, 1], &[1, 1], overfull(1));
     for mode in BOTH {
-        is_at_every_top(mode, 2, &[0, 1], &[1, 1], valid(1, 0));
+        is_at_every_top(mode, 2, &[0, 1], &[1, 1], valid_in(mode, 1, 2));
     }
 }
 
@@ -213,10 +243,10 @@ fn two_frames() {
 fn one_of_two_frames_past_the_tables() {
     for top in TOPS {
         for mode in BOTH {
-            is(mode, 1, &[0, 0], &[1, top], valid(top, 0));
+            is(mode, 1, &[0, 0], &[1, top], valid_in(mode, top, 1));
         }
         is(READ, 1, &[0, 0], &[top, 1], overfull(0));
-        is(READ, 2, &[0, 0], &[top, 1], valid(top, 1));
+        is(READ, 2, &[0, 0], &[top, 1], valid(top, 2));
         is(SAVE, 1, &[0, 0], &[top, 1], overfull(1));
         is(SAVE, 2, &[0, 0], &[top, 1], valid(top, 0));
         is(READ, 1, &[0, 1], &[top, 0], overfull(0));
@@ -232,9 +262,8 @@ fn longest_list() {
     let in_order: Vec<u16> = (1..=4096).collect();
     let with_last = |last: [u16; 2]| [&in_order[..4094], &last].concat();
     for mode in BOTH {
-        let peak = |of_read| if mode == READ { of_read } else { 0 };
-        is_at_every_top(mode, 1, &list, &in_order, valid(4096, 0));
-        is_at_every_top(mode, 2, &list, &with_last([4096, 4095]), valid(4096, peak(1)));
+        is_at_every_top(mode, 1, &list, &in_order, valid_in(mode, 4096, 1));
+        is_at_every_top(mode, 2, &list, &with_last([4096, 4095]), valid_in(mode, 4096, 2));
         is_at_every_top(mode, 2, &list, &with_last([4096, 4096]), shared_card(4095));
         is_at_every_top(mode, 2, &list, &with_last([4095, 0]), no_cycle(4095));
     }
@@ -270,7 +299,7 @@ fn falling_in_blocks(starts: [usize; 4]) -> Vec<u16> {
 fn longest_list_falling_in_blocks() {
     let list = [0; 4096];
     let plan = falling_in_blocks([0, 1024, 2048, 3072]);
-    is_at_every_top(READ, 1024, &list, &plan, valid(4096, 1023));
+    is_at_every_top(READ, 1024, &list, &plan, valid(4096, 1024));
     is_at_every_top(SAVE, 1024, &list, &plan, valid(4096, 0));
     is_at_every_top(READ, 1023, &list, &plan, overfull(0));
     is_at_every_top(SAVE, 1023, &list, &plan, overfull(1023));

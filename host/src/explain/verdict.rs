@@ -37,8 +37,9 @@ fn valid(ticket: &[u8], read: &Ticket, cycles: Cycle, peak: u16) -> Vec<String> 
         Err(_) => format!("It has {has}."),
     }];
     if read.mode == READ {
+        let needs = count(peak.into(), "buffer");
         lines.push(format!(
-            "Its peak, the most frames held right after a cycle, is {peak}."
+            "It needs {needs}. That is its peak, the most frames held right after the reads of a cycle."
         ));
     }
     lines

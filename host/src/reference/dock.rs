@@ -3,13 +3,15 @@
 use std::collections::BTreeSet;
 
 /// A step of a plan's run. A read names a position.
-enum Step {
+#[derive(Clone, Copy, PartialEq, Eq)]
+pub enum Step {
     Read(usize),
     EndOfCycle,
 }
 
 /// What the dock keeps: "how many frames are handed over (always the first ones of the list), which frames are held,
-/// which cards have read in this cycle, how many cycles have ended, and whether the list of steps is broken off".
+/// which cards have read in this cycle, how many cycles have ended, and whether the list of steps is broken off", and then
+/// by which step.
 struct Dock<'a> {
     list: &'a [u8],
     m: usize,
@@ -17,7 +19,7 @@ struct Dock<'a> {
     held: BTreeSet<usize>,
     has_read: [bool; 32],
     ended: u16,
-    broken: bool,
+    broken_off: Option<Step>,
 }
 
 impl Dock<'_> {
@@ -30,21 +32,21 @@ impl Dock<'_> {
             held: BTreeSet::new(),
             has_read: [false; 32],
             ended: 0,
-            broken: false,
+            broken_off: None,
         }
     }
 
     /// "A step against the rules breaks the list of steps off: beyond that, neither it nor any later step changes
     /// anything." Answers whether the step was made.
     fn step(&mut self, step: Step) -> bool {
-        if !self.broken {
+        if self.broken_off.is_none() {
             let within_rules = match step {
                 Step::Read(position) => self.read(position),
                 Step::EndOfCycle => self.end_cycle(),
             };
-            self.broken = !within_rules;
+            self.broken_off = (!within_rules).then_some(step);
         }
-        !self.broken
+        self.broken_off.is_none()
     }
 
     /// "Against the rules if its card has read in this cycle. Otherwise it uses the card's turn. A frame neither held
@@ -76,9 +78,10 @@ impl Dock<'_> {
     }
 }
 
-/// What a plan's run came to. The cycles needed are there where all frames were handed over.
+/// What a plan's run came to. A step against the rules is there where it broke off, and the cycles needed where all frames
+/// were handed over.
 pub struct Run {
-    pub broken: bool,
+    pub broken_off: Option<Step>,
     pub delivered: u16,
     pub ended: u16,
     pub needed: Option<u16>,
@@ -93,7 +96,8 @@ pub fn length(plan: &[u16]) -> u16 {
 /// "A plan's run has, for each cycle from 1 to T, the reads of the frames with that number in list order, then the end
 /// of the cycle, and no drops."
 /// "The cycles needed are all those ended up to and with the step that hands over the last frame, 0 for no frames."
-/// "The peak of a run is the most frames held right after the end of a cycle, 0 for no cycles."
+/// "The peak becomes the most frames held right after the reads of a cycle, before handing over", 0 for no cycles. It counts
+/// a cycle whose reads were all made, and so the one whose end finds too many frames held.
 pub fn run_plan(list: &[u8], m: usize, plan: &[u16]) -> Run {
     let mut dock = Dock::new(list, m);
     let mut needed = list.is_empty().then_some(0);
@@ -103,15 +107,15 @@ pub fn run_plan(list: &[u8], m: usize, plan: &[u16]) -> Run {
         while let Some(position) = reads.next_if(|&position| plan[position] == cycle) {
             dock.step(Step::Read(position));
         }
-        if dock.step(Step::EndOfCycle) {
+        if dock.broken_off.is_none() {
             peak = peak.max(dock.held.len());
-            if needed.is_none() && dock.handed_over == list.len() {
-                needed = Some(dock.ended);
-            }
+        }
+        if dock.step(Step::EndOfCycle) && needed.is_none() && dock.handed_over == list.len() {
+            needed = Some(dock.ended);
         }
     }
     Run {
-        broken: dock.broken,
+        broken_off: dock.broken_off,
         delivered: dock.handed_over as u16,
         ended: dock.ended,
         needed,

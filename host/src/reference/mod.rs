@@ -13,6 +13,7 @@ mod ticket;
 pub use saver::Saver;
 
 use crate::raw::{CheckAnswer, CountsAnswer, Cycle, JoinAnswer, Part, PlanAnswer, Position, RunAnswer, TicketAnswer};
+use dock::{Run, Step};
 use ticket::Ticket;
 
 /// "Tickets: 1 to 6, then line by line 7 before 8, then 9", with 17 "after 7 and 8 of the same line".
@@ -137,26 +138,34 @@ fn check_or_refusal(ticket: &[u8], plan: &[u16]) -> Result<CheckAnswer, u8> {
 
 /// "Beside a refusal's number, other numbers of the answer are 0."
 pub fn run_plan(ticket: &[u8], plan: &[u16]) -> RunAnswer {
-    run_or_refusal(ticket, plan).unwrap_or_else(|refusal| RunAnswer {
-        refusal,
-        ..Default::default()
-    })
+    match run_or_refusal(ticket, plan) {
+        Ok(run) => RunAnswer {
+            refusal: 0,
+            broken: run.broken_off.is_some(),
+            complete: run.needed.is_some(),
+            delivered: run.delivered,
+            ended: Cycle(run.ended),
+            needed: Cycle(run.needed.unwrap_or(0)),
+            peak: run.peak,
+        },
+        Err(refusal) => RunAnswer {
+            refusal,
+            ..Default::default()
+        },
+    }
+}
+
+/// Whether a plan's run breaks off at an end of a cycle, which is "against the rules if more than m frames are held". No call
+/// of the library answers this.
+pub fn breaks_off_at_an_end(ticket: &[u8], plan: &[u16]) -> bool {
+    run_or_refusal(ticket, plan).is_ok_and(|run| run.broken_off == Some(Step::EndOfCycle))
 }
 
 /// The ticket's own refusals, then 11: a plan "has not exactly L cycles". The mode is not looked at.
-fn run_or_refusal(ticket: &[u8], plan: &[u16]) -> Result<RunAnswer, u8> {
+fn run_or_refusal(ticket: &[u8], plan: &[u16]) -> Result<Run, u8> {
     let read = Ticket::read(ticket)?;
     if plan.len() != read.list.len() {
         return Err(11);
     }
-    let run = dock::run_plan(&read.list, read.pool.into(), plan);
-    Ok(RunAnswer {
-        refusal: 0,
-        broken: run.broken,
-        complete: run.needed.is_some(),
-        delivered: run.delivered,
-        ended: Cycle(run.ended),
-        needed: Cycle(run.needed.unwrap_or(0)),
-        peak: run.peak,
-    })
+    Ok(dock::run_plan(&read.list, read.pool.into(), plan))
 }

@@ -5,7 +5,10 @@ use crate::generate::tickets::{self, CARD_DIGITS, HEADER_BYTES};
 use crate::generate::Random;
 use crate::library;
 use crate::same::with_mode;
+use std::collections::BTreeSet;
 use std::ops::Range;
+
+const READ: u8 = 0;
 
 /// A read or save ticket, and what a plan for it is made from.
 pub struct Given {
@@ -23,12 +26,19 @@ const POOL: Range<usize> = 6..10;
 impl Given {
     pub fn any(random: &mut Random, frames: usize) -> Given {
         let mode = random.below(2) as u8;
+        Given::of_mode(random, mode, frames)
+    }
+
+    pub fn read(random: &mut Random, frames: usize) -> Given {
+        Given::of_mode(random, READ, frames)
+    }
+
+    fn of_mode(random: &mut Random, mode: u8, frames: usize) -> Given {
         let ticket = with_mode(&tickets::of_length(random, frames), mode);
         let pool = number(&ticket[POOL]);
         let lines = ticket[HEADER_BYTES..].split_inclusive(|&byte| byte == b'\n');
         let list = lines.map(|line| number(&line[..CARD_DIGITS])).collect();
-        let mut planned = ticket.clone();
-        planned[POOL].copy_from_slice(format!("{:04X}", (pool - random.below(2)).max(1)).as_bytes());
+        let planned = with_pool(&ticket, (pool - random.below(2)).max(1));
         let mut own = vec![0; frames];
         library::plan(&planned, &mut own);
         Given {
@@ -41,8 +51,15 @@ impl Given {
     }
 
     fn reads(&self) -> bool {
-        self.mode == 0
+        self.mode == READ
     }
+}
+
+/// The same ticket with another pool.
+pub fn with_pool(ticket: &[u8], pool: usize) -> Vec<u8> {
+    let mut other = ticket.to_vec();
+    other[POOL].copy_from_slice(format!("{pool:04X}").as_bytes());
+    other
 }
 
 fn number(digits: &[u8]) -> usize {
@@ -57,6 +74,18 @@ pub fn plan(random: &mut Random, given: &Given) -> Vec<u16> {
         damage(random, given, &mut plan);
     }
     moved(random, plan)
+}
+
+/// A plan for a ticket "without cycle 0 or a shared card and cycle": a frame at fault gets the next cycle that is free.
+pub fn plan_of_free_cycles(random: &mut Random, given: &Given) -> Vec<u16> {
+    let mut plan = plan(random, given);
+    let mut used = BTreeSet::new();
+    for (cycle, card) in plan.iter_mut().zip(&given.list) {
+        while *cycle == 0 || !used.insert((card, *cycle)) {
+            *cycle = cycle.wrapping_add(1);
+        }
+    }
+    plan
 }
 
 /// The own plan, or one that has nothing to do with it: most have one frame a cycle, so that only a pool can be at fault.

@@ -1,6 +1,6 @@
 //! The checker and the dock's run, on the library's own plans and on foreign ones.
 
-use super::{same, with_mode};
+use super::{peaks, same, with_mode};
 use crate::generate::{plans, Random};
 use crate::library;
 use crate::tally::Tally;
@@ -22,6 +22,7 @@ pub fn compare(random: &mut Random, ticket: &[u8], header: &TicketAnswer, own: &
     }
     for plan in handed_in {
         let (checked, run) = compare_plan(ticket, &plan);
+        peaks::of_run(ticket, header, &plan, &checked, &run, tally);
         tally.plan(header.mode, &plan, &checked, &run);
     }
 }

@@ -1,9 +1,10 @@
 //! The comparisons: each call's whole answer and the whole lent memory, of the library and of the reference; the library's
-//! answers for two tickets that must be answered alike; and what must hold of a joined ticket.
+//! answers for two tickets that must be answered alike; and what must hold of a joined ticket and of a peak.
 
 pub mod foreign;
 pub mod joining;
 pub mod judging;
+pub mod peaks;
 pub mod planning;
 pub mod reading;
 pub mod saving;

@@ -1,10 +1,12 @@
 //! Counts of what was compared, so that a comparison of too little is seen.
 
 mod joins;
+mod peaks;
 mod verdicts;
 
 use dockplan::raw::{CheckAnswer, RunAnswer};
 use joins::Joins;
+use peaks::Peaks;
 use verdicts::Verdicts;
 
 /// How much was compared, and how often each refusal, each verdict and each end of a run occurred.
@@ -28,6 +30,7 @@ pub struct Tally {
     later_refusals: [u64; NUMBERS],
     saver_refusals: [u64; NUMBERS],
     pub verdicts: Verdicts,
+    pub peaks: Peaks,
     pub joins: Joins,
     broken: u64,
     complete: u64,
@@ -105,6 +108,7 @@ impl Tally {
         add_each(&mut self.later_refusals, &other.later_refusals);
         add_each(&mut self.saver_refusals, &other.saver_refusals);
         self.verdicts.add(&other.verdicts);
+        self.peaks.add(&other.peaks);
         self.joins.add(&other.joins);
     }
 
@@ -135,6 +139,7 @@ impl Tally {
             "runs: {} broken off, {} complete, {} incomplete",
             self.broken, self.complete, self.incomplete
         );
+        self.peaks.print();
         self.joins.print();
     }
 
@@ -154,6 +159,7 @@ impl Tally {
         often_enough("later calls", &self.later_refusals, &LATER);
         often_enough("savers", &self.saver_refusals, &OF_SAVER);
         self.verdicts.assert_not_rare();
+        self.peaks.assert_not_rare();
         self.joins.assert_not_rare();
     }
 }
