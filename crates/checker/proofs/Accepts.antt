@@ -89,11 +89,14 @@ module _ (t cycles : List ℕ) (r : Verdict) (e : r ≡ checkOf (parse t) cycles
 
   -- a read plan: where it is valid, and what the peak tells
   module _ (q : h .mode ≡ modeRead) where
-    pub read-exact : (verdictNumber r ≡ validNumber → CorrectRead (h .pool) cards cycles) × (CorrectRead (h .pool) cards cycles → verdictNumber r ≡ validNumber)
+    pub read-exact :
+        (verdictNumber r ≡ validNumber → CorrectRead (h .pool) cards cycles) × (CorrectRead (h .pool) cards cycles → verdictNumber r ≡ validNumber)
     read-exact = exact-plan iBacklog (h .pool) cards cycles _ r (of-read q) (valid-read (h .pool) cards cycles) (read-valid (h .pool) cards cycles)
 
     pub valid-whole : CorrectRead (h .pool) cards cycles → r ≡ Valid (record { 0 = cyclesIn cycles }) (buffersNeeded cards cycles)
-    valid-whole ok = of-read q ∙ as-long cards cycles (verdictOnRead (h .pool) cards cycles) (ok .proper .one-each) ∙ ap answerOf (read-valid (h .pool) cards cycles ok)
+    valid-whole ok =
+        of-read q ∙ as-long cards cycles (verdictOnRead (h .pool) cards cycles) (ok .proper .one-each)
+        ∙ ap answerOf (read-valid (h .pool) cards cycles ok)
 
     peak-decides :
         Proper cards cycles
@@ -128,7 +131,8 @@ exact t cycles r e =
 -- the three clauses of `check`
 pub contract :
     (t cycles : List ℕ) (r : Verdict) → r ≡ checkOf (parse t) cycles
-    → (r ≡ checkOf (parse t) cycles) × ((numbersOf r ≡ numbersOf (checkOf (parse t) cycles)) × Exact t cycles (verdictNumber r) (positionNumber r) (peakNumber r))
+    → (r ≡ checkOf (parse t) cycles)
+    × ((numbersOf r ≡ numbersOf (checkOf (parse t) cycles)) × Exact t cycles (verdictNumber r) (positionNumber r) (peakNumber r))
 contract t cycles r e = (e, (ap numbersOf e, exact t cycles r e))
 
 module _ (t : List ℕ) (h : Header) (cards : List ℕ) (e : parse t ≡ accepted h cards) where

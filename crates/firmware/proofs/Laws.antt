@@ -53,6 +53,7 @@ module _ (first second before after : List ℕ) (a : JoinAnswer) (r : PlainJoin)
 module _ (t cycles : List ℕ) (v : Verdict) (r : CheckAnswer) (e : r ≡ checkAnswer (numbersOfCheck v)) where
   pub checked :
       (v ≡ checkOf (parse t) cycles)
-      × ((numbersOfCheck v ≡ numbersOfCheck (checkOf (parse t) cycles)) × Exact t cycles (numbersOfCheck v .verdict) (numbersOfCheck v .position .0) (numbersOfCheck v .peak))
+      × ((numbersOfCheck v ≡ numbersOfCheck (checkOf (parse t) cycles))
+      × Exact t cycles (numbersOfCheck v .verdict) (numbersOfCheck v .position .0) (numbersOfCheck v .peak))
       → (r ≡ checkAnswer (numbersOfCheck (checkOf (parse t) cycles))) × Exact t cycles (r .verdict) (r .position .0) (r .peak)
   checked p = (e ∙ ap checkAnswer (p .1 .0), rw e (p .1 .1))

@@ -129,7 +129,9 @@ module _ {p : Progress} {s : CodeStep} {before after : List ℕ} {x : Dock} {k :
     new-ended : x .ended ≡ new .ended
     new-ended = omega (arith, new-shows .ended, counted)
 
-    outcome-noted : outcome m cards (steps ++ (stepOf s ∷ [])) emptyDock ≡ cond (noted p (stepOf s) x .complete) (complete (noted p (stepOf s) x .needed)) unfinished
+    outcome-noted :
+        outcome m cards (steps ++ (stepOf s ∷ [])) emptyDock
+        ≡ cond (noted p (stepOf s) x .complete) (complete (noted p (stepOf s) x .needed)) unfinished
     outcome-noted =
         outcome-snoc m cards steps (stepOf s) emptyDock
         ∙ rw (v .outcome-is, new-shows .frames, new-shows .delivered, new-ended)

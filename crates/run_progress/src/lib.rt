@@ -15,6 +15,7 @@ pub struct Progress {
     pub peak: u16,
 }
 
+// Whether a step is the end of a cycle.
 fn is_end(step: Step) -> bool
     ensures { λ r. ⌜ r ≡ isEnd (stepOf step) ⌝ }
 {

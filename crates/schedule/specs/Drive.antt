@@ -26,6 +26,7 @@ module _ (m : ℕ) (cards : List ℕ) where
   outcome [] d = cond (allDelivered cards d) (complete (d .ended)) unfinished
   outcome (a ∷ steps) d = cond (allDelivered cards d) (complete (d .ended)) (outcome steps (step m cards a d))
 
+-- whether a step is the end of a cycle
 abbrev pub isEnd : Step → Bool
 isEnd (readFrame i) = false
 isEnd (dropFrame i) = false
@@ -59,7 +60,7 @@ stepsOf cycles = stepsTo cycles (cyclesIn cycles)
 abbrev pub buffersNeeded : List ℕ → List ℕ → ℕ
 buffersNeeded cards cycles = peak (length cards) cards (stepsOf cycles) emptyDock
 
--- A list of steps is broken off at an end of a cycle: the steps before that end are within the rules, and the end is not.
+-- A list of steps, made from dock d on, is broken off at an end of a cycle: the steps before that end are within the rules, and the end is not.
 pub record BreaksAtEnd (m : ℕ) (cards : List ℕ) (steps : List Step) (d : Dock) : Type 0 where
   pub before : List Step
   pub after : List Step
