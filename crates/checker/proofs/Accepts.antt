@@ -16,7 +16,7 @@ use Rattle.schedule.specs.Drive.{buffersNeeded}
 use Rattle.schedule.specs.Verdict.{Fault, valid, faulty, verdictOnRead, verdictOnSave, Named}
 use Rattle.schedule.specs.Verdict as theory
 use Rattle.schedule.proofs.Main.{valid-read, read-valid, valid-save, save-valid, read-named, save-named}
-use Rattle.schedule.proofs.Main.{own-read-valid, own-peak, own-save-valid, read-correct, save-correct, correct-within-peak}
+use Rattle.schedule.proofs.Main.{own-peak, own-save-valid, read-correct, read-length, save-correct, correct-within-peak}
 use Rattle.counting.specs.declared.Cycle.{Cycle}
 use Rattle.header.specs.Limits.{modeRead, modeSave}
 use Rattle.header.specs.declared.Header.{Header}
@@ -144,9 +144,8 @@ module _ (t : List ℕ) (h : Header) (cards : List ℕ) (e : parse t ≡ accepte
   own-read q =
       let pool = accepted-fits t h cards e .pool .0 in
       let cycles : List ℕ = lazyPrefetching (h .pool) cards .cycles in
-      ap (λ p. checkOf p cycles) e ∙ answer-read h cards cycles q
-      ∙ as-long cards cycles (verdictOnRead (h .pool) cards cycles) (read-correct (h .pool) cards pool .proper .one-each)
-      ∙ ap answerOf (own-read-valid (h .pool) cards pool)
+      valid-whole t cycles _ refl h cards e q (read-correct (h .pool) cards pool)
+      ∙ ap (λ T. Valid (record { 0 = T }) (buffersNeeded cards cycles)) (read-length (h .pool) cards pool)
 
   pub own-read-peak : h .mode ≡ modeRead → peakNumber (checkOf (parse t) (lazyPrefetching (h .pool) cards .cycles)) ≤ h .pool
   own-read-peak q = rw (own-read q) (own-peak (h .pool) cards (accepted-fits t h cards e .pool .0))

@@ -10,6 +10,7 @@ use Rattle.counting.proofs.Bits.{by-cases}
 use Rattle.schedule.specs.Dock.{Step, readFrame, dropFrame, endCycle, Dock as ModelDock, emptyDock, against, perform, breakOff, step, run}
 use Rattle.schedule.specs.Drive.{Outcome, complete, unfinished, allDelivered, outcome, isEnd, heldAtEnd, peak}
 use Rattle.schedule.proofs.Outcome.{run-append}
+use Rattle.schedule.proofs.Peak.{peak-append}
 use Rattle.dock.specs.declared.Dock.{Dock}
 use Rattle.dock.specs.declared.Step.{Step as CodeStep}
 use Rattle.run_progress.specs.declared.Progress.{Progress}
@@ -52,9 +53,8 @@ module _ (m : ℕ) (cards : List ℕ) where
   peak-snoc :
       (k : List Step) (a : Step) (d : ModelDock)
       → peak m cards (k ++ (a ∷ [])) d ≡ max (peak m cards k d) (heldAtEnd cards a (run m cards k d))
-  unfolding run peak
-  peak-snoc [] a d = omega arith
-  peak-snoc (b ∷ k) a d = omega (arith, peak-snoc k a (step m cards b d))
+  unfolding peak
+  peak-snoc k a d = omega (arith, peak-append m cards k (a ∷ []) d)
 
   -- a step ends one cycle or none
   module _ (d : ModelDock) where
