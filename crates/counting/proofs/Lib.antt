@@ -1,3 +1,4 @@
+pub mod Counted
 pub mod Least
 pub mod Firsts
 pub mod Turned

@@ -1,11 +1,11 @@
 -- Laws of `sum` and `howMany`.
 -- Assumes nothing.
-use Prim.Native.Nat.{ℕ, zero, suc, _+_, _-_, _≤_, _<_, min, zero-le}
+use Prim.Native.Nat.{ℕ, zero, suc, _+_, _-_, _*_, _≤_, _<_, min, zero-le}
 use mathlib.Core.Path.{_≡_, refl, sym, ap, _∙_}
 use mathlib.Core.Bool.{Bool, true, false, _&&_, and-true, and-false}
 use native.Mathlib.Omega.{arith}
 use native.Mathlib.Decide.{decLe, decLt, ℕ-discrete}
-use native.Mathlib.Nat.{add-zero}
+use native.Mathlib.Nat.{add-zero, zero-mul, suc-mul}
 use lib.Dec.{eqb, ltb, eqb·zero-suc, eqb·suc-suc, eqb·suc-zero}
 use borrow.Author.Tests.{eq-eqb, ne-eqb, eqb-true, le-ltb, lt-ltb}
 use Rattle.counting.specs.Count.{bit, sum, howMany}
@@ -34,6 +34,10 @@ pub sum-one : (n : ℕ) → sum n (λ i. 1) ≡ n
 sum-one zero = refl
 sum-one (suc n) = omega (arith, sum-one n)
 
+pub sum-same : (n k : ℕ) → sum n (λ i. k) ≡ n * k
+sum-same zero k = sym (zero-mul k)
+sum-same (suc n) k = omega (arith, sum-same n k, suc-mul n k)
+
 pub sum-swap : (n k : ℕ) (f : ℕ → ℕ → ℕ) → sum n (λ i. sum k (λ j. f i j)) ≡ sum k (λ j. sum n (λ i. f i j))
 sum-swap zero k f = sym (sum-zero k)
 sum-swap (suc n) k f =
@@ -47,6 +51,15 @@ sum-term-le (suc n) f i h =
       | yes l ↦ omega (arith, sum-term-le n f i l)
       | no l ↦ (let e : i ≡ n = omega arith in rw e (omega arith))
     ]
+
+-- terms of at most k, and one of them 0
+pub all-but-one : (n k x : ℕ) (f : ℕ → ℕ) → x < n → f x ≡ 0 → ((i : ℕ) → i < n → f i ≤ k) → sum n f ≤ (n - 1) * k
+all-but-one n k x f l z h =
+    let parts : sum n f + sum n (λ i. k - f i) ≡ n * k =
+    sym (sum-add n f (λ i. k - f i)) ∙ sum-cong n (λ i. f i + (k - f i)) (λ i. k) (λ i j. omega (arith, h i j)) ∙ sum-same n k in
+    let one : suc (n - 1) ≡ n = omega arith in
+    let less : n * k ≡ (n - 1) * k + k = rw one at (suc-mul (n - 1) k) in
+    omega (arith, sum-term-le n (λ i. k - f i) x l)
 
 -- more terms
 pub sum-longer : (n k : ℕ) (f : ℕ → ℕ) → n ≤ k → sum n f ≤ sum k f

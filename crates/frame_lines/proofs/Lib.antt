@@ -3,4 +3,3 @@ pub mod Faults
 pub mod OneLine
 pub mod Judging
 pub mod WholePart
-pub mod Counting

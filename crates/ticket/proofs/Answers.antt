@@ -12,6 +12,7 @@ use borrow.Author.Tests.{ne-eqb, lt-ltb, le-ltb, ltb-true}
 use lib.Dec.{ltb}
 use Rattle.counting.specs.Frames.{cardOf}
 use Rattle.counting.proofs.Bits.{by-cases}
+use Rattle.counting.proofs.Counted.{counts-front}
 use Rattle.counting.proofs.Parts.{from-place}
 use Rattle.text.specs.Text.{isLine}
 use Rattle.text.proofs.Lines.{line-true}
@@ -29,7 +30,6 @@ use Rattle.ticket.specs.Ticket.{lineRefusalOf, lineStart, lineIn, lineOf
 use Rattle.ticket.specs.Seconds.{secondsOf, secondOf}
 use Rattle.ticket.proofs.Accepted.{as-many, its-edition, fits, its-line, line-inside, text-length}
 use Rattle.ticket.proofs.Seconds.{second-at, second-past}
-use Rattle.frame_lines.proofs.Counting.{counts-front}
 use Rattle.ticket.proofs.Memory.{into-accepted, into-long, into-zeros}
 use Rattle.ticket.proofs.Reader.{refusal-above}
 use Rattle.header.specs.declared.Header.{Header}
@@ -142,7 +142,7 @@ module _ (h : Header) (cards rest card : List ℕ) (f : Fits h cards) (a : card 
   )
 
   pub tally-gives : countsUpTo card (h .frames) ≡ countsUpTo cards (length cards)
-  tally-gives = rw (a, ← f .frames) (counts-front cards rest)
+  tally-gives = rw (a, ← f .frames) (counts-front maxCards cards rest)
 
 -- what a call goes on with, and the counts
 module _ (t memory after : List ℕ) (a : Answer) (e : a ≡ answerIn (parse t)) (m : after ≡ readInto t memory) (l : length memory ≡ maxFrames) where

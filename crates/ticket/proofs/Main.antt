@@ -4,7 +4,7 @@
 use Prim.Native.Nat.{ℕ, _+_, _*_, _≤_, _<_}
 use mathlib.Core.Bool.{cond}
 use mathlib.Core.Path.{_≡_, refl, sym, ap, _∙_}
-use mathlib.Core.List.{List, _++_}
+use mathlib.Core.List.{List, [], _++_}
 use mathlib.Core.Logic.{_⊎_, inl, inr}
 use lib.Dec.{ltb}
 use lib.ListN.{length, take, drop}
@@ -109,6 +109,10 @@ pub written-accepted :
     (h : Header) (cards seconds : List ℕ) → Fits h cards → SecondsFit (h .edition) (length cards) seconds
     → (parse (ticketText h cards seconds) ≡ accepted h cards) × (secondsOf (ticketText h cards seconds) ≡ seconds)
 written-accepted h cards seconds f g = (again.accepted-again h cards seconds f g, again.seconds-again h cards seconds f g)
+
+-- In edition 01 there are no seconds to write.
+pub written-edition-1 : (h : Header) (cards : List ℕ) → h .edition ≡ edition1 → Fits h cards → parse (ticketText h cards []) ≡ accepted h cards
+written-edition-1 h cards e f = written-accepted h cards [] f (rw e (seconds.none-fit (length cards))) .0
 
 -- "A digit now has its value in either case, also mixed within a line": every text is read as its upper-case text is. It is accepted exactly
 -- when that one is, with the same values, and otherwise refused by the same number.

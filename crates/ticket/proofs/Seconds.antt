@@ -1,8 +1,8 @@
 -- The seconds of an accepted ticket: how many there are, which, and that they do not fall.
 -- Assumes nothing.
 use Prim.Native.Nat.{ℕ, suc, _^_, _≤_, _<_}
-use mathlib.Core.Path.{_≡_, sym, ap, _∙_}
-use mathlib.Core.List.{List}
+use mathlib.Core.Path.{_≡_, refl, sym, ap, _∙_}
+use mathlib.Core.List.{List, []}
 use native.Mathlib.Omega.{arith}
 use native.Mathlib.Nat.{pow-le-pow-right}
 use native.Mathlib.Decide.{ℕ-discrete}
@@ -11,7 +11,7 @@ use borrow.Author.Tests.{ne-eqb}
 use Rattle.counting.specs.Count.{tabulate}
 use Rattle.counting.proofs.Lists.{length-tabulate, getD-tabulate}
 use Rattle.text.proofs.Lines.{line-true}
-use Rattle.header.specs.Editions.{edition2, secondDigits}
+use Rattle.header.specs.Editions.{edition1, edition2, secondDigits}
 use Rattle.header.specs.Heading.{editionOf}
 use Rattle.header.specs.declared.Header.{Header}
 use Rattle.header.proofs.Widths.{no-second, widest}
@@ -30,6 +30,10 @@ as-frames edition n e = rw e
 pub no-seconds : (edition n : ℕ) → (edition ≡ edition2 → ⊥) → howManySeconds edition n ≡ 0
 unfolding howManySeconds
 no-seconds edition n e = rw (ne-eqb edition edition2 e)
+
+pub none-fit : (n : ℕ) → SecondsFit edition1 n []
+unfolding howManySeconds
+none-fit n = record { each = refl; small = λ i l. absurd (omega arith); order = λ i l. absurd (omega arith) }
 
 pub up-to-frames : (edition n : ℕ) → howManySeconds edition n ≤ n
 up-to-frames edition n =

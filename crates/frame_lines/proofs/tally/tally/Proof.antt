@@ -4,8 +4,9 @@ use Prim.Native.Nat.{_≤_, _-_}
 use mathlib.Core.Path.{_≡_, refl}
 use native.Mathlib.Omega.{arith}
 use denote.Ref.{now}
+use Rattle.counting.proofs.Counted.{count-small, count-next}
+use Rattle.header.specs.Limits.{maxCards}
 use Rattle.frame_lines.specs.Tally.{countsUpTo}
-use Rattle.frame_lines.proofs.Counting.{count-small, count-next}
 use borrow.Author.Needs.{needs}
 use Rattle.frame_lines.proofs.tally.tally.Statement.{statement}
 use Rattle.frame_lines.proofs.tally.tally.Tie as tie
@@ -41,7 +42,7 @@ add-count : tie.Need-add-count Inv-loop μ-loop
 add-count c =
     let l = c .before .before .before .loop in
     let a = c .before .before .before .before .before in
-    let small = count-small (now (a .args .card)) (l .count) (l .i) (l .inv .1) (a .pre .2 (l .i) (omega arith)) _ (c .card-index .ensures) in
+    let small = count-small maxCards (now (a .args .card)) (l .count) (l .i) (l .inv .1) (a .pre .2 (l .i) (omega arith)) _ (c .card-index .ensures) in
     omega (arith, small)
 
 mul-count-2 : tie.Need-mul-count-2 Inv-loop μ-loop
@@ -66,7 +67,7 @@ loop-again : tie.Need-loop-again Inv-loop μ-loop
 loop-again c =
     let l = c .before .before .before .loop in
     let a = c .before .before .before .before .before in
-    (omega arith, count-next (now (a .args .card)) (l .count) (l .i) (l .inv .1) (a .pre .2 (l .i) (omega arith)) _ (c .card-index .ensures))
+    (omega arith, count-next maxCards (now (a .args .card)) (l .count) (l .i) (l .inv .1) (a .pre .2 (l .i) (omega arith)) _ (c .card-index .ensures))
 
 returns : tie.Need-returns Inv-loop μ-loop
 returns c =
