@@ -1,5 +1,8 @@
 pub mod Main
 pub mod SubLists
+pub mod Ranks
+pub mod Loads
+pub mod Demands
 pub mod Tabulated
 pub mod Fewest
 pub mod Cases

@@ -2,12 +2,13 @@
 -- from 1 on, with no other premise. The definitions are in specs/: Schedule, Greedy, Dock, Drive; demand 3 as a whole is in specs/Demand;
 -- joined lists are in crates/counting/specs/Joined.
 -- Assumes nothing.
-use Prim.Native.Nat.{ℕ, suc, _≤_, _<_}
+use Prim.Native.Nat.{ℕ, suc, _+_, _-_, _*_, _≤_, _<_}
 use mathlib.Core.Path.{_≡_, ap, _∙_}
 use mathlib.Core.List.{List, [], _∷_, reverse, map}
 use native.Mathlib.Omega.{arith}
 use lib.ListN.{length}
 use Rattle.counting.specs.Count.{tabulate, largest}
+use Rattle.counting.specs.Frames.{cardOf, load}
 use Rattle.counting.specs.Joined.{Sub, Joined}
 use Rattle.counting.proofs.Joined.{joined-first, joined-second}
 use Rattle.schedule.specs.Schedule.{cyclesIn, oBacklog, iBacklog, Proper, CorrectSave, CorrectRead}
@@ -16,9 +17,13 @@ use Rattle.schedule.specs.Dock.{Step, emptyDock, run}
 use Rattle.schedule.specs.Drive.{complete, outcome, stepsOf, peak, buffersNeeded, BreaksAtEnd}
 use Rattle.schedule.specs.Verdict.{Fault, valid, faulty, verdictOnRead, verdictOnSave, Named}
 use Rattle.schedule.specs.Demand.{SaveDemand, Drives, ReadDemand}
+use Rattle.schedule.specs.Loads.{fullest, Even, byRank}
 use Rattle.schedule.specs.Cases.{computed, expected, cases}
 use Rattle.schedule.proofs.Fewest as fewest
 use Rattle.schedule.proofs.SubLists as sublists
+use Rattle.schedule.proofs.Loads as loads
+use Rattle.schedule.proofs.Ranks as ranks
+use Rattle.schedule.proofs.Demands as demands
 use Rattle.schedule.proofs.Duality as duality
 use Rattle.schedule.proofs.Drive as drive
 use Rattle.schedule.proofs.Peak as peaks
@@ -175,6 +180,53 @@ module _ (m : ℕ) (pool : 1 ≤ m) where
   pub joined-read : {first second whole : List ℕ} → Joined first second whole
       → (lazyPrefetching m first .T ≤ lazyPrefetching m whole .T) × (lazyPrefetching m second .T ≤ lazyPrefetching m whole .T)
   joined-read j = (sub-read (joined-first j), sub-read (joined-second j))
+
+-- The loads of the cards (request 2026-06).
+module _ (cards cycles : List ℕ) (ok : Proper cards cycles) where
+  -- No card has more frames than a schedule, of reads or saves and for whichever pool, has cycles;
+  pub load-at-most : (c : ℕ) → load cards (length cards) c ≤ cyclesIn cycles
+  load-at-most = loads.load-at-most cards cycles ok
+
+  -- so no schedule has fewer cycles than the fullest card has frames.
+  pub fullest-at-most : (D : ℕ) → fullest D cards ≤ cyclesIn cycles
+  fullest-at-most = loads.fullest-at-most cards cycles ok
+
+-- Cards that no frame is on change nothing of it.
+pub fullest-wider :
+    (D E : ℕ) (cards : List ℕ) → D ≤ E → ((i : ℕ) → i < length cards → cardOf cards i < D) → fullest E cards ≡ fullest D cards
+fullest-wider = loads.fullest-wider
+
+-- A list on D cards that uses them evenly, and a pool above (D - 1) × S.
+module _
+    (D S m : ℕ) (cards : List ℕ) (low : (i : ℕ) → i < length cards → cardOf cards i < D) (room : (D - 1) * S < m) where
+  -- The schedule by rank is a correct save schedule, as long as the load of the fullest card;
+  pub rank-correct : Even D S cards → CorrectSave m cards (byRank cards) × (cyclesIn (byRank cards) ≡ fullest D cards)
+  rank-correct even = (ranks.rank-correct D S cards low even m room, ranks.rank-length D S cards low even m room)
+
+  -- by ranks counted from the end of the list and turned round, a read schedule.
+  pub rank-correct-read : Even D S (reverse cards) → CorrectRead m cards (turnRound (fullest D cards) (byRank (reverse cards)))
+  rank-correct-read even = ranks.rank-correct-read D S cards low even m room
+
+  -- So greedyWriting and lazy prefetching take exactly the load of the fullest card.
+  pub even-save : Even D S cards → greedyWriting m cards .T ≡ fullest D cards
+  even-save even = ranks.save-fullest D S cards low even m room
+
+  pub even-read : Even D S (reverse cards) → lazyPrefetching m cards .T ≡ fullest D cards
+  even-read even = ranks.read-fullest D S cards low even m room
+
+-- That load is little above an equal share.
+pub even-bound :
+    (D S : ℕ) (cards : List ℕ) → ((i : ℕ) → i < length cards → cardOf cards i < D) → Even D S cards
+    → D * fullest D cards ≤ length cards + (D - 1) * S
+even-bound D S cards low even = ranks.fullest-bound D S cards low even
+
+-- Demand 3 leaves one T: what is said of the T of greedyWriting and of lazy prefetching holds of every plan that meets it.
+module _ (m : ℕ) (cards cycles : List ℕ) (T : ℕ) (pool : 1 ≤ m) where
+  pub save-demand-T : SaveDemand m cards cycles T → T ≡ greedyWriting m cards .T
+  save-demand-T = demands.save-T m cards cycles T pool
+
+  pub read-demand-T : ReadDemand m cards cycles T → T ≡ lazyPrefetching m cards .T
+  read-demand-T = demands.read-T m cards cycles T pool
 
 -- The table of cases.
 pub cases-hold : map computed cases ≡ map expected cases

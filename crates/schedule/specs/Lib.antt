@@ -4,4 +4,5 @@ pub mod Dock
 pub mod Drive
 pub mod Verdict
 pub mod Demand
+pub mod Loads
 pub mod Cases
