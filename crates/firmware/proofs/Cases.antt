@@ -18,6 +18,8 @@ use Rattle.planner.specs.Plan.{planOf, bufferAfter}
 use Rattle.merged_lines.specs.Merge.{merge}
 use Rattle.join.specs.Join.{joinable, joinRead, joinOf, answerOf}
 use Rattle.join.specs.Join as join
+use Rattle.hub.specs.Gather.{hubCards, gatherOf, leaves}
+use Rattle.hub.specs.Gather as hub
 use Rattle.checker.specs.Check.{checkOf}
 use Rattle.plan_run.specs.Run.{ranOf}
 use Rattle.print_lines.specs.Lines.{refusalText}
@@ -34,6 +36,6 @@ pub cases-hold : map (λ (x : Case). resultOf (call x)) cases ≡ map expected c
 unfolding saveAndKeep greedyWriting lazyPrefetching run outcome peak stepsTo verdictOnRead verdictOnSave digit digits number isLine digitOf
     hex known secondDigits headerOf withinLimits headerAnswer heading cardAt secondAt secondBefore lineFault linesFault partFault parse zeros
     lineOf linePlace howManySeconds secondsOf lineTexts ticketText planOf bufferAfter merge joinable joinRead joinOf answerOf
-    join.bufferAfter checkOf ranOf frameLines planText refusalText textOf bytesIn put.bufferAfter
+    join.bufferAfter hubCards gatherOf hub.answerOf leaves checkOf ranOf frameLines planText refusalText textOf bytesIn put.bufferAfter
     newOf saveOf closeOf startOf memoryStarted recordAfter bytesAfter driveOf memoryDriven
 cases-hold = refl

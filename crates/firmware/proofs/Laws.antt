@@ -13,13 +13,18 @@ use Rattle.join.specs.Join.{joinOf, answerOf, bufferAfter as joinedInto}
 use Rattle.join.specs.Numbers.{numbersOf as numbersOfJoin}
 use Rattle.join.specs.Showing.{Showing}
 use Rattle.join.specs.declared.Answer.{Answer as JoinAnswer}
+use Rattle.hub.specs.Fullest.{Gathering}
+use Rattle.hub.specs.Gather.{gatherOf, answerOf as gatheredIn, bufferAfter as gatheredInto}
+use Rattle.hub.specs.Numbers.{numbersOf as numbersOfHub}
+use Rattle.hub.specs.declared.Answer.{Answer as HubAnswer}
 use Rattle.checker.specs.Check.{checkOf}
 use Rattle.checker.specs.Numbers.{numbersOf as numbersOfCheck}
 use Rattle.checker.specs.Exact.{Exact}
 use Rattle.checker.specs.declared.Verdict.{Verdict}
-use Rattle.plain_answers.specs.Answers.{countsAnswer, planAnswer, joinAnswer, checkAnswer}
+use Rattle.plain_answers.specs.Answers.{countsAnswer, planAnswer, joinAnswer, hubAnswer, checkAnswer}
 use Rattle.plain_answers.specs.declared.plans.PlanAnswer.{PlanAnswer}
 use Rattle.plain_answers.specs.declared.joins.JoinAnswer.{JoinAnswer as PlainJoin}
+use Rattle.plain_answers.specs.declared.hubs.HubAnswer.{HubAnswer as PlainHub}
 use Rattle.plain_answers.specs.declared.checks.CheckAnswer.{CheckAnswer}
 
 -- the counts of a ticket, with its number beside them
@@ -48,6 +53,17 @@ module _ (first second before after : List ℕ) (a : JoinAnswer) (r : PlainJoin)
       → (r ≡ joinAnswer (numbersOfJoin (answerOf (joinOf first second) (length before))))
       × ((after ≡ joinedInto (joinOf first second) before) × Showing first second (r .refusal) (r .bytes) after)
   joined p = (e ∙ ap joinAnswer (p .1 .1 .0), (p .1 .0, rw e (p .1 .1 .1)))
+
+-- the contract of `dockplan_hub` from that of `hub::gather`
+module _ (chosen cameras before after : List ℕ) (a : HubAnswer) (r : PlainHub) (e : r ≡ hubAnswer (numbersOfHub a)) where
+  pub gathered :
+      (a ≡ gatheredIn (gatherOf chosen cameras (length before)))
+      × ((after ≡ gatheredInto chosen cameras before)
+      × ((numbersOfHub a ≡ numbersOfHub (gatheredIn (gatherOf chosen cameras (length before))))
+      × Gathering chosen (numbersOfHub a .refusal) (numbersOfHub a .frames) after))
+      → (r ≡ hubAnswer (numbersOfHub (gatheredIn (gatherOf chosen cameras (length before)))))
+      × ((after ≡ gatheredInto chosen cameras before) × Gathering chosen (r .refusal) (r .frames) after)
+  gathered p = (e ∙ ap hubAnswer (p .1 .1 .0), (p .1 .0, rw e (p .1 .1 .1)))
 
 -- the contract of `dockplan_check` from that of `checker::check`
 module _ (t cycles : List ℕ) (v : Verdict) (r : CheckAnswer) (e : r ≡ checkAnswer (numbersOfCheck v)) where

@@ -4,8 +4,7 @@
 use Prim.Native.Nat.{ℕ}
 use mathlib.Core.Path.{_≡_, refl, sym, _∙_}
 use mathlib.Core.Bool.{false}
-use mathlib.Core.List.{List, [], map}
-use lib.ListN.{length}
+use mathlib.Core.List.{List, map}
 use Rattle.text.specs.UpperCase.{upperCase}
 use Rattle.header.specs.declared.Header.{Header}
 use Rattle.ticket.specs.Print.{asEdition1, withoutSeconds}
@@ -44,7 +43,7 @@ pub edition-1-twin :
     × ((c : Call) → tellsEdition c ≡ false → resultOf (withTicket t c) ≡ resultOf (withTicket (withoutSeconds h cards) c))
 edition-1-twin t h cards e =
     let fits = values.fits-first h cards (ticket.accepted-fits t h cards e) in
-    let twin = ticket.written-accepted (asEdition1 h) cards [] fits (values.no-seconds (length cards)) .0 in
+    let twin = ticket.written-edition-1 (asEdition1 h) cards refl fits in
     (twin, values.no-say t (withoutSeconds h cards) h (asEdition1 h) cards e twin refl refl refl)
 
 -- And so do two texts, accepted or not, that differ in the case of their digits alone.

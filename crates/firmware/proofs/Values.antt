@@ -4,14 +4,13 @@
 use Prim.Native.Nat.{ℕ, _+_, _*_}
 use mathlib.Core.Bool.{false, true≢false}
 use mathlib.Core.Path.{_≡_, refl, sym, ap, _∙_}
-use mathlib.Core.List.{List, []}
+use mathlib.Core.List.{List}
 use mathlib.Core.Logic.{inl}
-use native.Mathlib.Omega.{arith}
 use native.Mathlib.Decide.{ℕ-discrete}
 use lib.ListN.{length}
 use Rattle.ticket.specs.Grounds.{Fits}
 use Rattle.ticket.specs.Print.{asEdition1}
-use Rattle.ticket.specs.Seconds.{howManySeconds, secondsOf, SecondsFit}
+use Rattle.ticket.specs.Seconds.{secondsOf}
 use Rattle.ticket.specs.Ticket.{Parsed, accepted, parse, lineRefusalOf, lineOf, linePlace}
 use Rattle.ticket.proofs.Accepted.{as-many}
 use Rattle.planner.specs.Plan.{planOf, bufferAfter}
@@ -20,11 +19,11 @@ use Rattle.checker.specs.Check.{checkOf}
 use Rattle.plan_run.specs.Run.{ranOf}
 use Rattle.printing.specs.Printed.{textOf}
 use Rattle.dock_start.specs.Start.{startOf, memoryStarted}
-use Rattle.header.specs.Editions.{edition1, lineDigits, lineBytes}
+use Rattle.header.specs.Editions.{lineDigits, lineBytes}
 use Rattle.header.specs.Heading.{headerBytes}
 use Rattle.header.specs.declared.Header.{Header}
 use Rattle.ticket.proofs.Answers.{no-line, no-place, its-place, line-length, same-edition}
-use Rattle.firmware.specs.Calls.{Call, parseTicket, planTicket, printPlan, joinFirst, joinSecond, checkPlan, runPlan, line, counts}
+use Rattle.firmware.specs.Calls.{Call, parseTicket, planTicket, printPlan, joinFirst, joinSecond, gather, checkPlan, runPlan, line, counts}
 use Rattle.firmware.specs.Calls.{newSaver, save, close, startDock, driveDock, withTicket, tellsEdition, resultOf}
 
 module _ (s t : List ℕ) (e : parse s ≡ parse t) (x : secondsOf s ≡ secondsOf t) where
@@ -67,6 +66,7 @@ module _ (s t : List ℕ) (e : parse s ≡ parse t) (x : secondsOf s ≡ seconds
   alike (printPlan _ buffer) = rw e
   alike (joinFirst _ other buffer) = rw (first-alike other)
   alike (joinSecond _ other buffer) = rw (second-alike other)
+  alike (gather chosen cameras buffer) = refl
   alike (checkPlan _ cycles) = rw e
   alike (runPlan _ cycles) = rw e
   alike (line _ p) = rw (e, place-alike p, length-alike p)
@@ -94,6 +94,7 @@ module _
   no-say (printPlan _ buffer) q = rw (e, f, but-edition)
   no-say (joinFirst _ other buffer) q = absurd (true≢false q)
   no-say (joinSecond _ other buffer) q = absurd (true≢false q)
+  no-say (gather chosen cameras buffer) q = refl
   no-say (checkPlan _ cycles) q = rw (e, f, but-edition)
   no-say (runPlan _ cycles) q = rw (e, f, but-edition)
   no-say (line _ p) q = absurd (true≢false q)
@@ -116,7 +117,3 @@ fits-first h cards f =
       few = f .few;
       each-card = f .each-card;
     }
-
-pub no-seconds : (n : ℕ) → SecondsFit edition1 n []
-unfolding howManySeconds
-no-seconds n = record { each = refl; small = λ i l. absurd (omega arith); order = λ i l. absurd (omega arith) }

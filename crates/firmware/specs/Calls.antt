@@ -10,6 +10,8 @@ use Rattle.planner.specs.Plan.{planOf, bufferAfter}
 use Rattle.planner.specs.Numbers.{numbersOf as numbersOfPlan}
 use Rattle.join.specs.Join.{Outcome, joinOf, answerOf, bufferAfter as joinedInto}
 use Rattle.join.specs.Numbers.{numbersOf as numbersOfJoin}
+use Rattle.hub.specs.Gather.{gatherOf, answerOf as gatheredOf, bufferAfter as gatheredInto}
+use Rattle.hub.specs.Numbers.{numbersOf as numbersOfHub}
 use Rattle.checker.specs.Check.{checkOf}
 use Rattle.checker.specs.Numbers.{numbersOf as numbersOfCheck}
 use Rattle.plan_run.specs.Run.{ranOf}
@@ -24,23 +26,26 @@ use Rattle.dock.specs.Drive.{driveOf, memoryDriven}
 use Rattle.dock.specs.declared.Dock.{Dock}
 use Rattle.dock.specs.declared.Step.{Step}
 use Rattle.dock.specs.declared.Driven.{Driven}
-use Rattle.plain_answers.specs.Answers.{ticketAnswer, linePart, countsAnswer, planAnswer, joinAnswer, checkAnswer, runAnswer}
+use Rattle.plain_answers.specs.Answers.{ticketAnswer, linePart, countsAnswer, planAnswer, joinAnswer, hubAnswer, checkAnswer, runAnswer}
 use Rattle.plain_answers.specs.declared.tickets.TicketAnswer.{TicketAnswer}
 use Rattle.plain_answers.specs.declared.tickets.Part.{Part}
 use Rattle.plain_answers.specs.declared.tickets.CountsAnswer.{CountsAnswer}
 use Rattle.plain_answers.specs.declared.plans.PlanAnswer.{PlanAnswer}
 use Rattle.plain_answers.specs.declared.joins.JoinAnswer.{JoinAnswer}
+use Rattle.plain_answers.specs.declared.hubs.HubAnswer.{HubAnswer}
 use Rattle.plain_answers.specs.declared.checks.CheckAnswer.{CheckAnswer}
 use Rattle.plain_answers.specs.declared.checks.RunAnswer.{RunAnswer}
 
 -- A call, with a ticket and what else it takes: a lent buffer as it is before the call, another ticket, a plan, a position, a saver's record,
--- memory, a step. A join takes two tickets: the ticket is its first one or its second, and the other one follows.
+-- memory, a step. A join takes two tickets: the ticket is its first one or its second, and the other one follows. The hub takes the patterns of the
+-- cameras, the camera of each frame and a buffer.
 pub data Call : Type 0 where
   parseTicket : List ℕ → Call
   planTicket : List ℕ → List ℕ → Call
   printPlan : List ℕ → List ℕ → Call
   joinFirst : List ℕ → List ℕ → List ℕ → Call
   joinSecond : List ℕ → List ℕ → List ℕ → Call
+  gather : List ℕ → List ℕ → List ℕ → Call
   checkPlan : List ℕ → List ℕ → Call
   runPlan : List ℕ → List ℕ → Call
   line : List ℕ → ℕ → Call
@@ -58,6 +63,7 @@ withTicket t (planTicket _ buffer) = planTicket t buffer
 withTicket t (printPlan _ buffer) = printPlan t buffer
 withTicket t (joinFirst _ other buffer) = joinFirst t other buffer
 withTicket t (joinSecond _ other buffer) = joinSecond t other buffer
+withTicket t (gather chosen cameras buffer) = gather chosen cameras buffer
 withTicket t (checkPlan _ cycles) = checkPlan t cycles
 withTicket t (runPlan _ cycles) = runPlan t cycles
 withTicket t (line _ p) = line t p
@@ -76,6 +82,7 @@ tellsEdition (planTicket _ _) = false
 tellsEdition (printPlan _ _) = false
 tellsEdition (joinFirst _ _ _) = true
 tellsEdition (joinSecond _ _ _) = true
+tellsEdition (gather _ _ _) = false
 tellsEdition (checkPlan _ _) = false
 tellsEdition (runPlan _ _) = false
 tellsEdition (line _ _) = true
@@ -96,6 +103,8 @@ pub data Result : Type 0 where
   text : ℕ → List ℕ → Result
   -- refusal, bytes, the buffer
   joinedTicket : ℕ → ℕ → List ℕ → Result
+  -- refusal, how many cards were given, the buffer
+  gathered : ℕ → ℕ → List ℕ → Result
   -- refusal, verdict, position, T, peak
   verdict : ℕ → ℕ → ℕ → ℕ → ℕ → Result
   -- refusal, broken off, complete, delivered, cycles ended, cycles needed, peak
@@ -117,6 +126,9 @@ ofPlan a buffer = plan (a .refusal) (a .cycles .0) buffer
 
 abbrev ofJoin : JoinAnswer → List ℕ → Result
 ofJoin a buffer = joinedTicket (a .refusal) (a .bytes) buffer
+
+abbrev ofHub : HubAnswer → List ℕ → Result
+ofHub a buffer = gathered (a .refusal) (a .frames) buffer
 
 abbrev ofCheck : CheckAnswer → Result
 ofCheck a = verdict (a .refusal) (a .verdict) (a .position .0) (a .cycles .0) (a .peak)
@@ -146,6 +158,8 @@ resultOf (planTicket t buffer) = ofPlan (planAnswer (numbersOfPlan (planOf (pars
 resultOf (printPlan t buffer) = text (bytesIn (printed t) (length buffer)) (textAfter (printed t) buffer)
 resultOf (joinFirst t other buffer) = joinResult (joinOf t other) buffer
 resultOf (joinSecond t other buffer) = joinResult (joinOf other t) buffer
+resultOf (gather chosen cameras buffer) =
+    ofHub (hubAnswer (numbersOfHub (gatheredOf (gatherOf chosen cameras (length buffer))))) (gatheredInto chosen cameras buffer)
 resultOf (checkPlan t cycles) = ofCheck (checkAnswer (numbersOfCheck (checkOf (parse t) cycles)))
 resultOf (runPlan t cycles) = ofRun (runAnswer (numbersOfRun (ranOf (parse t) cycles)))
 resultOf (line t p) = ofLine (linePart t p) (lineRefusalOf (parse t) p)

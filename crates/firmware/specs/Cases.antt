@@ -11,9 +11,9 @@ use Rattle.ticket.specs.Print.{headerText, ticketText}
 use Rattle.saver.specs.declared.Saver.{Saver}
 use Rattle.dock.specs.declared.Dock.{Dock}
 use Rattle.dock.specs.declared.Step.the-variants.{Read, End}
-use Rattle.firmware.specs.Calls.{Call, parseTicket, planTicket, printPlan, joinFirst, joinSecond, checkPlan, runPlan, line, counts}
+use Rattle.firmware.specs.Calls.{Call, parseTicket, planTicket, printPlan, joinFirst, joinSecond, gather, checkPlan, runPlan, line, counts}
 use Rattle.firmware.specs.Calls.{newSaver, save, close, startDock, driveDock}
-use Rattle.firmware.specs.Calls.{Result, ticket, plan, text, joinedTicket, verdict, run, part, cardCounts, saved, dock}
+use Rattle.firmware.specs.Calls.{Result, ticket, plan, text, joinedTicket, gathered, verdict, run, part, cardCounts, saved, dock}
 
 infix 70 _gives_
 pub data Case : Type 0 where
@@ -124,6 +124,8 @@ cases =
     ∷ newSaver 32 1025 gives saved 5 0 nothing refusedSaver
     -- 6: frames over 4,096
     ∷ parseTicket (ticketOf 1 0 2 2 4097 []) gives ticket 6 0 0 0 0 0
+    -- or those of a list for the hub
+    ∷ gather (0 ∷ []) (replicate 4097 0) (9 ∷ []) gives gathered 6 0 (9 ∷ [])
     -- 7: a frame line is missing
     ∷ parseTicket (ticketOf 1 0 2 2 1 []) gives ticket 7 0 0 0 0 0
     -- or has the digits of the other edition: the header decides
@@ -149,6 +151,8 @@ cases =
     -- or a joined ticket has no room, after 18
     ∷ joinFirst (timedNone 0 2 2) (timedNone 0 2 2) (replicate 14 9) gives joinedTicket 10 0 (replicate 14 9)
     ∷ joinFirst (timedNone 0 2 2) (timedNone 0 2 3) (replicate 14 9) gives joinedTicket 18 0 (replicate 14 9)
+    -- or the hub's buffer is shorter than its list
+    ∷ gather (0 ∷ 4 ∷ []) (0 ∷ 1 ∷ []) (9 ∷ []) gives gathered 10 0 (9 ∷ [])
     -- 11: a plan that is checked or run has not exactly L cycles
     ∷ checkPlan read001 (1 ∷ 2 ∷ []) gives verdict 11 0 0 0 0
     ∷ runPlan read001 (1 ∷ 2 ∷ []) gives run 11 false false 0 0 0 0
@@ -172,6 +176,16 @@ cases =
     ∷ joinFirst [] (ticketOf 3 0 2 2 0 []) [] gives joinedTicket 1 0 []
     ∷ joinSecond [] (ticketOf 3 0 2 2 0 []) [] gives joinedTicket 2 0 []
     ∷ joinSecond [] timed001 [] gives joinedTicket 1 0 []
+    -- 20: the hub has no camera, more than 6, or a pattern over 7
+    ∷ gather [] [] (9 ∷ []) gives gathered 20 0 (9 ∷ [])
+    ∷ gather (replicate 7 0) [] (9 ∷ []) gives gathered 20 0 (9 ∷ [])
+    ∷ gather (0 ∷ 8 ∷ []) [] (9 ∷ []) gives gathered 20 0 (9 ∷ [])
+    -- 21: a camera number is not below their count
+    ∷ gather (0 ∷ 4 ∷ []) (0 ∷ 2 ∷ []) (9 ∷ 9 ∷ []) gives gathered 21 0 (9 ∷ 9 ∷ [])
+    -- in the order 20, 6, 21, 10
+    ∷ gather (8 ∷ []) (replicate 4097 1) [] gives gathered 20 0 []
+    ∷ gather (0 ∷ []) (replicate 4097 1) [] gives gathered 6 0 []
+    ∷ gather (0 ∷ []) (replicate 4096 1) [] gives gathered 21 0 []
     -- no refusal: what stands in the header, a plan, a line, counts
     ∷ parseTicket read001 gives ticket 0 1 0 2 2 3
     ∷ planTicket read001 (9 ∷ 9 ∷ 9 ∷ 9 ∷ []) gives plan 0 2 (1 ∷ 2 ∷ 2 ∷ 9 ∷ [])
@@ -198,6 +212,11 @@ cases =
     (48 ∷ 50 ∷ 48 ∷ 48 ∷ 49 ∷ 48 ∷ 48 ∷ 48 ∷ 48 ∷ 50 ∷ 48 ∷ 48 ∷ 48 ∷ 50 ∷ 10
     ∷ 48 ∷ 66 ∷ 48 ∷ 48 ∷ 48 ∷ 48 ∷ 48 ∷ 48 ∷ 48 ∷ 65 ∷ 10
     ∷ 48 ∷ 65 ∷ 48 ∷ 48 ∷ 48 ∷ 48 ∷ 48 ∷ 48 ∷ 48 ∷ 65 ∷ 10 ∷ [])
+    -- gathered: two cameras on patterns 0 and 4, one camera that comes round, six cameras and the last pattern, and no frames; later places are kept
+    ∷ gather (0 ∷ 4 ∷ []) (0 ∷ 1 ∷ 0 ∷ []) (9 ∷ 9 ∷ 9 ∷ 9 ∷ []) gives gathered 0 3 (0 ∷ 4 ∷ 1 ∷ 9 ∷ [])
+    ∷ gather (1 ∷ []) (replicate 9 0) (replicate 10 9) gives gathered 0 9 (0 ∷ 3 ∷ 6 ∷ 1 ∷ 4 ∷ 7 ∷ 2 ∷ 5 ∷ 0 ∷ 9 ∷ [])
+    ∷ gather (0 ∷ 1 ∷ 2 ∷ 3 ∷ 4 ∷ 7 ∷ []) (5 ∷ 5 ∷ []) (9 ∷ 9 ∷ []) gives gathered 0 2 (4 ∷ 3 ∷ [])
+    ∷ gather (7 ∷ []) [] (9 ∷ []) gives gathered 0 0 (9 ∷ [])
     -- digits in either case: `01001f02eb0000`, `01001d01ca0000`; and g, which is none: `010002000g0000`
     ∷ parseTicket (48 ∷ 49 ∷ 48 ∷ 48 ∷ 49 ∷ 102 ∷ 48 ∷ 50 ∷ 101 ∷ 98 ∷ 48 ∷ 48 ∷ 48 ∷ 48 ∷ 10 ∷ []) gives ticket 0 1 0 31 747 0
     ∷ parseTicket (48 ∷ 49 ∷ 48 ∷ 48 ∷ 49 ∷ 100 ∷ 48 ∷ 49 ∷ 99 ∷ 97 ∷ 48 ∷ 48 ∷ 48 ∷ 48 ∷ 10 ∷ []) gives ticket 0 1 0 29 458 0

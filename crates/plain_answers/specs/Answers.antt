@@ -8,6 +8,7 @@ use Rattle.header.specs.Numbers as header
 use Rattle.ticket.specs.Ticket.{Parsed, refusalOf, lineOf, linePlace, countsOf}
 use Rattle.planner.specs.Numbers as planner
 use Rattle.join.specs.Numbers as join
+use Rattle.hub.specs.Numbers as hub
 use Rattle.checker.specs.Numbers as checker
 use Rattle.plan_run.specs.Numbers as replay
 use Rattle.plain_answers.specs.declared.tickets.TicketAnswer.{TicketAnswer}
@@ -15,6 +16,7 @@ use Rattle.plain_answers.specs.declared.tickets.Part.{Part}
 use Rattle.plain_answers.specs.declared.tickets.CountsAnswer.{CountsAnswer}
 use Rattle.plain_answers.specs.declared.plans.PlanAnswer.{PlanAnswer}
 use Rattle.plain_answers.specs.declared.joins.JoinAnswer.{JoinAnswer}
+use Rattle.plain_answers.specs.declared.hubs.HubAnswer.{HubAnswer}
 use Rattle.plain_answers.specs.declared.checks.CheckAnswer.{CheckAnswer}
 use Rattle.plain_answers.specs.declared.checks.RunAnswer.{RunAnswer}
 
@@ -38,6 +40,10 @@ planAnswer n = record { refusal = n .refusal; cycles = n .cycles }
 -- the bytes of a joined ticket
 abbrev pub joinAnswer : join.Numbers → JoinAnswer
 joinAnswer n = record { refusal = n .refusal; bytes = n .bytes }
+
+-- how many cards the hub gave
+abbrev pub hubAnswer : hub.Numbers → HubAnswer
+hubAnswer n = record { refusal = n .refusal; frames = n .frames }
 
 -- a verdict by its number, with the position at fault, T and the peak
 abbrev pub checkAnswer : checker.Numbers → CheckAnswer

@@ -1,0 +1,10 @@
+pub mod Main
+pub mod Named
+pub mod Even
+pub mod Fullest
+pub mod Tickets
+pub mod Calls
+pub mod Cases
+pub mod Refusals
+pub mod Words
+pub mod Placed
