@@ -6,5 +6,5 @@ pub mod Tickets
 pub mod Calls
 pub mod Cases
 pub mod Refusals
-pub mod Words
-pub mod Placed
+pub mod Turning
+pub mod Placing

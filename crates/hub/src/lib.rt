@@ -1,16 +1,21 @@
 // A field hub: 1 to 6 cameras gathered onto eight cards.
 ghost use mathlib.Core.Path.{_≡_};
+ghost use mathlib.Core.Bool.{true};
+ghost use Prim.Native.Nat.{_+_, _≤_};
 ghost use lib.ListN.{length};
 ghost use Rattle.counting.specs.Count.{largest, written};
 ghost use Rattle.hub.specs.Fullest.{Gathering};
 ghost use Rattle.hub.specs.Gather.{hubCards, gatherOf, answerOf, bufferAfter};
 ghost use Rattle.hub.specs.Grounds.{Fits};
 ghost use Rattle.hub.specs.Numbers.{numbersOf};
+ghost use Rattle.hub.specs.Patterns.{hubSize};
+ghost use Rattle.hub.specs.Words.{Places, Inside, AllOf};
 use header::limits;
 use patterns::CAMERAS;
 use patterns::SIZE;
 
-pub mod patterns;
+mod patterns;
+mod words;
 
 // So many cards given, or the number of a refusal.
 pub enum Answer {
@@ -62,21 +67,59 @@ fn refusal(chosen: &[u8], cameras: &[u8], places: usize) -> u8
     0
 }
 
-// Writes the card of each frame over the front of a buffer. A camera's word has its next card lowest, and turns by one card for each frame.
+// Writes the cards of the frames from one place of the list up to another, frame by frame: a camera's next card is the lowest byte of its word, which then
+// turns to the next one.
+fn place_each(cameras: &[u8], from: usize, to: usize, words: &mut [u64; CAMERAS], cards: &mut [u8])
+    requires { ⌜ Inside (now cameras) from to (length (now cards)) ⌝ }
+    ensures { λ r. ⌜ Places (now (cameras .entry)) from to (now (words .entry)) (now (cards .entry)) (now (words .exit)) (now (cards .exit)) ⌝ }
+{
+    let mut i = from;
+    while i < to {
+        let camera = patterns::index(cameras[i]);
+        let word = words[camera];
+        cards[i] = (word % 256) as u8;
+        words[camera] = words::turned(word);
+        i += 1;
+    }
+}
+
+// Whether the eight frames from a place on are all of one camera.
+fn all_of(camera: u8, cameras: &[u8], at: usize) -> bool
+    requires { ⌜ at + 8 ≤ length (now cameras) ⌝ }
+    ensures { λ r. ⌜ (r ≡ true → AllOf camera (now (cameras .entry)) at hubSize) ⌝ }
+{
+    let mut same = true;
+    let mut j: usize = 0;
+    while j < SIZE {
+        let other = cameras[at + j];
+        j += 1;
+        if other != camera {
+            same = false;
+        }
+    }
+    same
+}
+
+// Writes the card of each frame over the front of a buffer, by eight frames. Eight frames of one camera take the eight cards of its word as they stand, and
+// the word turns all the way round.
 fn place(chosen: &[u8], cameras: &[u8], cards: &mut [u8])
     requires { ⌜ Fits (now chosen) (now cameras) (length (now cards)) ⌝ }
     ensures { λ r. ⌜ now (cards .exit) ≡ written (hubCards (now (chosen .entry)) (now (cameras .entry))) (now (cards .entry)) ⌝ }
 {
     let n = cameras.len();
-    let mut words = patterns::words(chosen);
+    let mut words = patterns::words_of(chosen);
     let mut i: usize = 0;
-    while i < n {
-        let camera = patterns::index(cameras[i]);
-        let word = words[camera];
-        cards[i] = (word % 256) as u8;
-        words[camera] = word / 256 + word % 256 * 0x100000000000000;
-        i += 1;
+    while SIZE <= n - i {
+        let at = i;
+        let camera = cameras[at];
+        i += SIZE;
+        if all_of(camera, cameras, at) {
+            words::put_eight(cards, at, words[patterns::index(camera)]);
+        } else {
+            place_each(cameras, at, i, &mut words, cards);
+        }
     }
+    place_each(cameras, i, n, &mut words, cards);
 }
 
 // Gathers a list of frames, given by the camera of each: writes their cards over the front of the buffer; later places keep their content.

@@ -1,111 +1,113 @@
 -- `hub::place` meets its contract.
 -- Assumes nothing.
-use Prim.Native.Nat.{_-_, _≤_, _<_}
-use mathlib.Core.Path.{_≡_, refl, _∙_}
+use Prim.Native.Nat.{_-_, _≤_}
 use native.Mathlib.Omega.{arith}
 use denote.Ref.{now}
-use lib.ListN.{length, length-set}
-use Rattle.hub.proofs.Placed.{low-cards, Placed, placed-next, all-placed}
-use Rattle.hub.proofs.Words.{Turned, turned-none, next-card, turned-fits, turned-next}
+use lib.ListN.{getD}
+use Rattle.hub.specs.Words.{Placing}
+use Rattle.hub.proofs.Placing.{placing-none, placing-length, inside, placing-eight, all-placed}
 use borrow.Author.Needs.{needs}
 use Rattle.hub.proofs.place.Statement.{statement}
 use Rattle.hub.proofs.place.Tie as tie
 
 abbrev Inv-loop : tie.InvT-loop
-Inv-loop chosen cameras cards₀ n words₀ i₀ cards words i =
-    (i ≤ n) × (length cards ≡ length cards₀) × Placed chosen cameras cards₀ i cards × Turned chosen cameras i words
+Inv-loop chosen cameras cards₀ n words₀ i₀ cards words i = (i ≤ n) × Placing chosen cameras cards₀ i words cards
 
 abbrev μ-loop : tie.MeasureT-loop
 μ-loop chosen cameras cards₀ n words₀ i₀ cards words i = n - i
 
-words-requires : tie.Need-words-requires Inv-loop μ-loop
-words-requires c κs = c .before .before .before .pre .known
+words-of-requires : tie.Need-words-of-requires Inv-loop μ-loop
+words-of-requires c κs = c .before .before .before .pre .known
 
 loop-holds : tie.Need-loop-holds Inv-loop μ-loop
-loop-holds c = (omega arith, refl, refl, turned-none _ _ _ (c .words .ensures))
+loop-holds c =
+    let entry = c .before .before .before .before in
+    (omega arith, placing-none _ _ _ (entry .pre .known) (entry .pre .seen) (entry .pre .room) _ (c .words-of .ensures))
 
-shared-slice-read-index : tie.Need-shared-slice-read-index Inv-loop μ-loop
-shared-slice-read-index c = search needs
+sub-loop : tie.Need-sub-loop Inv-loop μ-loop
+sub-loop c = search needs
+
+shared-slice-read-camera : tie.Need-shared-slice-read-camera Inv-loop μ-loop
+shared-slice-read-camera c = search needs
+
+add-i : tie.Need-add-i Inv-loop μ-loop
+add-i c = search needs
+
+all-of-requires : tie.Need-all-of-requires Inv-loop μ-loop
+all-of-requires c κs = search needs
 
 index-requires : tie.Need-index-requires Inv-loop μ-loop
 index-requires c κs = search needs
 
-mul-word : tie.Need-mul-word Inv-loop μ-loop
-mul-word c =
-    let entry = c .before .before .before .before .before .before .before .before in
-    let at = c .before .before .before .loop in
+mul-put-eight : tie.Need-mul-put-eight Inv-loop μ-loop
+mul-put-eight c =
+    let entry = c .before .before .before .before .before .before .before .before .before .before .before in
+    let at = c .before .before .before .before .before .before .loop in
     omega (arith, c .index .ensures, entry .pre .seen (at .i) (omega arith), entry .pre .known .count)
 
-array-read-word : tie.Need-array-read-word Inv-loop μ-loop
-array-read-word c =
-    let entry = c .before .before .before .before .before .before .before .before in
-    let at = c .before .before .before .loop in
+array-read-put-eight : tie.Need-array-read-put-eight Inv-loop μ-loop
+array-read-put-eight c =
+    let entry = c .before .before .before .before .before .before .before .before .before .before .before in
+    let at = c .before .before .before .before .before .before .loop in
     omega (arith, c .index .ensures, entry .pre .seen (at .i) (omega arith), entry .pre .known .count)
 
-cast-cards : tie.Need-cast-cards Inv-loop μ-loop
-cast-cards c = search needs
-
-slice-write-cards : tie.Need-slice-write-cards Inv-loop μ-loop
-slice-write-cards c =
-    let entry = c .before .before .before .before .before .before .before .before in
-    omega (arith, c .before .before .before .loop .inv .1, entry .pre .room)
-
-mul-words : tie.Need-mul-words Inv-loop μ-loop
-mul-words c = omega arith
-
-add-words : tie.Need-add-words Inv-loop μ-loop
-add-words c =
-    let entry = c .before .before .before .before .before .before .before .before in
-    let at = c .before .before .before .loop in
-    let is = c .index .ensures in
-    let known : c .index .result < length (now (entry .args .chosen)) = omega (arith, is, entry .pre .seen (at .i) (omega arith)) in
-    record { fits = turned-fits _ _ (low-cards _ (entry .pre .known)) (at .i) (at .words) (at .inv .3) _ is known }
-
-mul-words-2 : tie.Need-mul-words-2 Inv-loop μ-loop
-mul-words-2 c =
-    let entry = c .before .before .before .before .before .before .before .before in
-    let at = c .before .before .before .loop in
-    omega (arith, c .index .ensures, entry .pre .seen (at .i) (omega arith), entry .pre .known .count)
-
-array-write-words : tie.Need-array-write-words Inv-loop μ-loop
-array-write-words c =
-    let entry = c .before .before .before .before .before .before .before .before in
-    let at = c .before .before .before .loop in
-    omega (arith, c .index .ensures, entry .pre .seen (at .i) (omega arith), entry .pre .known .count)
-
-add-i : tie.Need-add-i Inv-loop μ-loop
-add-i c = search needs
+put-eight-requires : tie.Need-put-eight-requires Inv-loop μ-loop
+put-eight-requires c κs =
+    let entry = c .before .before .before .before .before .before .before .before .before .before .before in
+    let at = c .before .before .before .before .before .before .loop in
+    omega (arith, placing-length _ _ _ (entry .pre .known) (entry .pre .seen) (entry .pre .room) (at .i) _ _ (at .inv .1) (at .inv .0), entry .pre .room)
 
 loop-less : tie.Need-loop-less Inv-loop μ-loop
 loop-less c = search needs
 
 loop-again : tie.Need-loop-again Inv-loop μ-loop
 loop-again c =
+    let entry = c .before .before .before .before .before .before .before .before .before .before .before .before .before .before in
+    let at = c .before .before .before .before .before .before .before .before .before .loop in
+    let camera = getD (now (entry .args .cameras)) (at .i) 0 in
+    let same = c .before .before .before .before .before .before .all-of .ensures (c .before .before .before .before .before .if1 .taken) in
+    let block =
+    placing-eight _ _ _ (entry .pre .known) (entry .pre .seen) (entry .pre .room) (at .i) (at .words) (at .cards) (at .inv .1) (omega arith) camera same in
+    (omega arith, rw (c .before .before .put-eight .ensures, c .before .before .before .index .ensures) block)
+
+place-each-requires : tie.Need-place-each-requires Inv-loop μ-loop
+place-each-requires c κs =
+    let entry = c .before .before .before .before .before .before .before .before .before .before .before in
+    let at = c .before .before .before .before .before .before .loop in
+    let long = placing-length _ _ _ (entry .pre .known) (entry .pre .seen) (entry .pre .room) (at .i) _ _ (at .inv .1) (at .inv .0) in
+    inside _ _ (now (entry .args .cards)) (entry .pre .known) (entry .pre .seen) (entry .pre .room) _ _ _
+    (omega arith) (omega arith) (omega (arith, long, entry .pre .room))
+
+loop-less-2 : tie.Need-loop-less-2 Inv-loop μ-loop
+loop-less-2 c = search needs
+
+loop-again-2 : tie.Need-loop-again-2 Inv-loop μ-loop
+loop-again-2 c =
+    let entry = c .before .before .before .before .before .before .before .before .before .before .before .before .before .before in
+    let at = c .before .before .before .before .before .before .before .before .before .loop in
+    (omega arith, c .before .before .place-each .ensures _ _ (entry .pre .known) (entry .pre .seen) (entry .pre .room) (at .inv .1))
+
+place-each-requires-2 : tie.Need-place-each-requires-2 Inv-loop μ-loop
+place-each-requires-2 c κs =
     let entry = c .before .before .before .before .before .before .before .before in
     let at = c .before .before .before .loop in
-    let chosen = now (entry .args .chosen) in
-    let cameras = now (entry .args .cameras) in
-    let camera = c .index .result in
-    let is = c .index .ensures in
-    let known : camera < length chosen = omega (arith, is, entry .pre .seen (at .i) (omega arith)) in
-    let low = low-cards chosen (entry .pre .known) in
-    let card = next-card chosen cameras low (at .i) (at .words) (at .inv .3) camera is known in
-    let room : at .i < length (now (entry .args .cards)) = omega (arith, entry .pre .room) in (
-      omega arith,
-      length-set (at .cards) (at .i) _ ∙ at .inv .1,
-      placed-next chosen cameras (now (entry .args .cards)) (at .i) (at .cards) camera _ (at .inv .2) room is card,
-      turned-next chosen cameras low (at .i) (at .words) (at .inv .3) camera is known _ (omega (arith, entry .pre .known .count)) refl,
-    )
+    let long = placing-length _ _ _ (entry .pre .known) (entry .pre .seen) (entry .pre .room) (at .i) _ _ (at .inv .1) (at .inv .0) in
+    inside _ _ (now (entry .args .cards)) (entry .pre .known) (entry .pre .seen) (entry .pre .room) _ _ _
+    (omega arith) (omega arith) (omega (arith, long, entry .pre .room))
 
 same-length : tie.Need-same-length Inv-loop μ-loop
-same-length c = c .before .loop .inv .1
+same-length c =
+    let entry = c .before .before .before .before .before .before .before .before .before .before .before in
+    let at = c .before .before .before .before .before .before .loop in
+    let whole = c .before .before .place-each2 .ensures _ _ (entry .pre .known) (entry .pre .seen) (entry .pre .room) (at .inv .1) in
+    placing-length _ _ _ (entry .pre .known) (entry .pre .seen) (entry .pre .room) _ _ _ whole (omega arith)
 
 returns : tie.Need-returns Inv-loop μ-loop
 returns c =
-    let at = c .before .loop in
-    let entry = c .before .before .before .before .before .before in
-    let all : at .i ≡ length (now (entry .args .cameras)) = omega arith in
-    all-placed _ _ _ (at .cards) (rw all at (at .inv .2))
+    let entry = c .before .before .before .before .before .before .before .before .before .before .before in
+    let at = c .before .before .before .before .before .before .loop in
+    let whole = c .before .before .place-each2 .ensures _ _ (entry .pre .known) (entry .pre .seen) (entry .pre .room) (at .inv .1) in
+    all-placed _ _ _ (entry .pre .known) (entry .pre .seen) (entry .pre .room) _ _ whole
 
 pub place-spec : {M : Type 1} → statement M
 place-spec =
@@ -113,20 +115,21 @@ place-spec =
     (tie.spec
     Inv-loop
     μ-loop
-    words-requires
+    words-of-requires
     loop-holds
-    shared-slice-read-index
-    index-requires
-    mul-word
-    array-read-word
-    cast-cards
-    slice-write-cards
-    mul-words
-    add-words
-    mul-words-2
-    array-write-words
+    sub-loop
+    shared-slice-read-camera
     add-i
+    all-of-requires
+    index-requires
+    mul-put-eight
+    array-read-put-eight
+    put-eight-requires
     loop-less
     loop-again
+    place-each-requires
+    loop-less-2
+    loop-again-2
+    place-each-requires-2
     same-length
     returns)

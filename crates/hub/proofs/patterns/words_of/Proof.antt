@@ -1,14 +1,14 @@
--- `hub::patterns::words` meets its contract.
+-- `hub::patterns::words_of` meets its contract.
 -- Assumes nothing.
 use Prim.Native.Nat.{_-_, _≤_}
 use mathlib.Core.Path.{refl, ap, _∙_}
 use native.Mathlib.Omega.{arith}
 use Rattle.hub.specs.Patterns.{patternCard}
 use Rattle.hub.specs.Words.{wordAt}
-use Rattle.hub.proofs.Words.{Ready, ready-next}
+use Rattle.hub.proofs.Placing.{Ready, ready-next}
 use borrow.Author.Needs.{needs}
-use Rattle.hub.proofs.patterns.words.Statement.{statement}
-use Rattle.hub.proofs.patterns.words.Tie as tie
+use Rattle.hub.proofs.patterns.words_of.Statement.{statement}
+use Rattle.hub.proofs.patterns.words_of.Tie as tie
 
 abbrev Inv-loop : tie.InvT-loop
 Inv-loop chosen n words₀ q₀ words q = (q ≤ n) × Ready chosen q words
@@ -58,8 +58,8 @@ returns c =
     let ready = c .before .loop .inv .1 in
     record { so-many = ready .so-many; each = λ q l. ready .each q (omega arith) }
 
-pub words-spec : {M : Type 1} → statement M
-words-spec =
+pub words-of-spec : {M : Type 1} → statement M
+words-of-spec =
     tie.close
     (tie.spec
     Inv-loop
