@@ -3,10 +3,12 @@
 #   make test       passes everything: the gate (proofs, wrong versions, test programs), the examples, the library from Rust
 # For reviewers:
 #   make join       joins FIRST=file and SECOND=file, two halves of a survey, into one ticket on standard output
+# For field engineers:
+#   make hub        writes the read ticket of a field hub's frames to standard output, from POOL, PATTERNS and CAMERAS
 # For support:
 #   make explain    says in words what TICKET=file asks for, or where its refusal stands, and checks the plan beside it or PLAN=file
 # For those who link the library:
-#   make firmware   builds target/lib/libdockplan.a and runs three small callers in C, the first one on TICKET
+#   make firmware   builds target/lib/libdockplan.a and runs four small callers in C, the first one on TICKET
 #   make install    copies header, archive and a pkg-config file to PREFIX
 #   make host       compares every call of the library, from Rust, with an implementation of its own
 #   make bench      measures the library against C and Rust, by time and by instructions
@@ -14,12 +16,15 @@
 TICKET = examples/first.ticket
 FIRST = examples/half_1.ticket
 SECOND = examples/half_2.ticket
+POOL = 15
+PATTERNS = 0 4
+CAMERAS = 0 0 0 1 0 1 1 0 0 1 1 1
 PREFIX = /usr/local
 LIBRARY = target/lib/libdockplan.a
 CARGO = cd host && CARGO_TARGET_DIR=../target/host cargo
 CC_WARNED = $(CC) -std=c99 -O2 -Wall -Wextra -Wpedantic -Iinclude
 
-.PHONY: plan test examples program join explain firmware install host bench
+.PHONY: plan test examples program join hub explain firmware install host bench
 
 plan: program
 	@target/bin/dockplan < $(TICKET)
@@ -50,16 +55,24 @@ firmware: $(LIBRARY)
 	@$(CC_WARNED) examples/firmware.c $(LIBRARY) -o target/firmware
 	@$(CC_WARNED) examples/saver.c $(LIBRARY) -o target/saver
 	@$(CC_WARNED) examples/join.c $(LIBRARY) -o target/join
+	@$(CC_WARNED) examples/hub.c $(LIBRARY) -o target/hub
 	@target/firmware < $(TICKET)
 	@echo "and saved as they come, cards 0 0 1 with a pool of 2:"
 	@echo 0 0 1 | target/saver 2 2
 	@target/join examples/half_1.ticket examples/half_2.ticket | cmp - examples/joined.ticket
 	@echo "and two halves of a survey joined into examples/joined.ticket"
+	@echo 0 0 0 1 0 1 1 0 0 1 1 1 | target/hub 15 0 4 | cmp - examples/hub.ticket
+	@echo "and the frames of two cameras gathered into examples/hub.ticket"
 
 # nothing but the joined ticket goes to standard output
 join: $(LIBRARY)
 	@$(CC_WARNED) examples/join.c $(LIBRARY) -o target/join
 	@target/join $(FIRST) $(SECOND)
+
+# nothing but the ticket goes to standard output; PATTERNS has a pattern for each camera, CAMERAS a camera for each frame
+hub: $(LIBRARY)
+	@$(CC_WARNED) examples/hub.c $(LIBRARY) -o target/hub
+	@echo $(CAMERAS) | target/hub $(POOL) $(PATTERNS)
 
 # the version stands in the header; DESTDIR goes before PREFIX for those who make packages
 install: $(LIBRARY)

@@ -30,20 +30,22 @@
  *
  * Refusals, in the order in which they are tried: 1 to 6, then line by line 7 before 8 before 17, then 9, which are
  * the ticket's own; after that 10, or 12 before 11, or 16. Where two tickets are joined, the first one's own, then the
- * second one's, then 18 before 19 before 10. A saver's are given with its calls.
+ * second one's, then 18 before 19 before 10. A hub's are 20, 6, 21, 10 in this order. A saver's are given with its
+ * calls.
  *
- *    1  the first 15 bytes are not 14 digits and an end byte    10  the plan buffer has fewer than L places, or the
- *    2  edition is neither 01 nor 02                                joined ticket has no room
- *    3  mode is over 02                                         11  a plan has not exactly L cycles
- *    4  cards not 1 to 32                                       12  the checker is given mode 02
- *    5  pool not 1 to 1,024                                     13  the saver has taken 4,096 frames
- *    6  frames over 4,096                                       14  a closing cycle with an empty pool
- *    7  a frame line is missing or is not the digits of         15  a save after closing has begun
- *       the edition, 2 or 10, and an end byte                   16  a line is wanted at a position not below L
- *    8  a card number is not below cards                        17  a second is lower than that of the line before
- *    9  bytes follow the last line                              18  of two tickets to join, one is not edition 02 or
- *                                                                   not a read, or cards or pool differ
- *                                                               19  they have more than 4,096 frames together
+ *    1  the first 15 bytes are not 14 digits and an end byte    11  a plan has not exactly L cycles
+ *    2  edition is neither 01 nor 02                            12  the checker is given mode 02
+ *    3  mode is over 02                                         13  the saver has taken 4,096 frames
+ *    4  cards not 1 to 32                                       14  a closing cycle with an empty pool
+ *    5  pool not 1 to 1,024                                     15  a save after closing has begun
+ *    6  frames over 4,096, in a ticket or in a hub's list       16  a line is wanted at a position not below L
+ *    7  a frame line is missing or is not the digits of         17  a second is lower than that of the line before
+ *       the edition, 2 or 10, and an end byte                   18  of two tickets to join, one is not edition 02 or
+ *    8  a card number is not below cards                            not a read, or cards or pool differ
+ *    9  bytes follow the last line                              19  they have more than 4,096 frames together
+ *   10  the plan buffer has fewer than L places, the            20  a hub has not 1 to 6 cameras, or a pattern is not
+ *       joined ticket has no room, or the hub's buffer              0 to 7
+ *       has fewer places than its list has frames               21  a camera number is not below the camera count
  */
 #ifndef DOCKPLAN_H
 #define DOCKPLAN_H
@@ -56,8 +58,8 @@
 extern "C" {
 #endif
 
-/* The version of this header: 105 for 1.5. It grows whenever a call is added or changed, or uses more stack. */
-#define DOCKPLAN_VERSION 105
+/* The version of this header: 106 for 1.6. It grows whenever a call is added or changed, or uses more stack. */
+#define DOCKPLAN_VERSION 106
 
 /* The version of the archive. Header and archive belong together exactly when this is DOCKPLAN_VERSION. */
 uint32_t dockplan_version(void);
@@ -172,6 +174,36 @@ typedef struct {
 dockplan_join_answer dockplan_join(const uint8_t *first, size_t first_bytes, const uint8_t *second,
                                    size_t second_bytes, uint8_t *ticket, size_t places);
 #define DOCKPLAN_STACK_JOIN 6688
+
+/* ---- A field hub with eight cards ---------------------------------------------------------------------------- */
+
+/* The most cameras that a hub gathers, and its cards. */
+#define DOCKPLAN_HUB_CAMERAS 6
+#define DOCKPLAN_HUB_CARDS 8
+
+/* How many cards stand at the front of the buffer: as many as the list has frames. */
+typedef struct {
+    uint8_t refusal;
+    uint16_t frames;
+} dockplan_hub_answer;
+
+/* Gives the card of each frame of a field hub, which gathers S cameras, 1 to 6, onto 8 cards. `patterns` has the number
+ * of a pattern, 0 to 7, for each camera, and so S is `cameras`; `list` has the number of a camera, 0 to S - 1, for each
+ * frame, in list order. Frame k of a camera, counted from 0, goes to place k mod 8 of the camera's pattern. Each of the
+ * patterns names every card once:
+ *
+ *    0  0 1 2 3 4 5 6 7      2  0 5 2 7 4 1 6 3      4  4 5 6 7 0 1 2 3      6  4 1 6 3 0 5 2 7
+ *    1  0 3 6 1 4 7 2 5      3  0 7 6 5 4 3 2 1      5  4 7 2 5 0 3 6 1      7  4 3 2 1 0 7 6 5
+ *
+ * Place i of the buffer gets the card of frame i, and later places keep their content. A read or save ticket of these
+ * cards, of either edition, with L frames and a pool above 7 S takes exactly as many cycles as the fullest card has
+ * frames: dockplan_plan's T is the largest number of dockplan_counts, and 8 T is at most L + 7 S. With a pool of 7 S
+ * some lists take a cycle more. Refusals: 20 where S is not 1 to 6 or a pattern is not 0 to 7; then 6 where the list
+ * has over 4,096 frames; then 21 where a camera number is not below S; then 10 where `places` is below `frames`.
+ * DOCKPLAN_MAX_FRAMES places are always enough. */
+dockplan_hub_answer dockplan_hub(const uint8_t *patterns, size_t cameras, const uint8_t *list, size_t frames,
+                                 uint8_t *cards, size_t places);
+#define DOCKPLAN_STACK_HUB 120
 
 /* ---- Plans that anyone made ---------------------------------------------------------------------------------- */
 

@@ -30,7 +30,9 @@ enum {
     MODE_NOT_CHECKED = 12,
     FALLING_SECOND = 17,
     DIFFERENT_TICKETS = 18,
-    MANY_TOGETHER = 19
+    MANY_TOGETHER = 19,
+    WRONG_HUB = 20,
+    WRONG_CAMERA = 21
 };
 
 /* ---- The ticket -------------------------------------------------------------------------------------------------------------------------- */
@@ -458,6 +460,90 @@ dockplan_join_answer PLAIN(join)(const uint8_t *first, size_t first_bytes, const
     put_header(ticket, one, frames);
     put_lines(ticket + HEADER_BYTES, frames, first + HEADER_BYTES, first + first_bytes, second + HEADER_BYTES, second + second_bytes);
     return (dockplan_join_answer){.bytes = size};
+}
+
+/* ---- A field hub ------------------------------------------------------------------------------------------------------------------------- */
+
+/* The cards of each pattern, place by place. */
+static const uint8_t pattern_cards[8][DOCKPLAN_HUB_CARDS] = {
+    {0, 1, 2, 3, 4, 5, 6, 7}, {0, 3, 6, 1, 4, 7, 2, 5}, {0, 5, 2, 7, 4, 1, 6, 3}, {0, 7, 6, 5, 4, 3, 2, 1},
+    {4, 5, 6, 7, 0, 1, 2, 3}, {4, 7, 2, 5, 0, 3, 6, 1}, {4, 1, 6, 3, 0, 5, 2, 7}, {4, 3, 2, 1, 0, 7, 6, 5},
+};
+
+static uint8_t largest_byte(const uint8_t *bytes, size_t count)
+{
+    uint8_t most = 0;
+    for (size_t i = 0; i < count; i++) {
+        most = bytes[i] > most ? bytes[i] : most;
+    }
+    return most;
+}
+
+static unsigned hub_refusal(const uint8_t *patterns, size_t cameras, const uint8_t *list, size_t frames, size_t places)
+{
+    if (cameras < 1 || cameras > DOCKPLAN_HUB_CAMERAS || largest_byte(patterns, cameras) > 7) {
+        return WRONG_HUB;
+    }
+    if (frames > DOCKPLAN_MAX_FRAMES) {
+        return WRONG_FRAMES;
+    }
+    if (frames > 0 && largest_byte(list, frames) >= cameras) {
+        return WRONG_CAMERA;
+    }
+    return places < frames ? FEW_PLACES : 0;
+}
+
+/* Eight bytes as they stand in memory, the first one the lowest; and with the first one behind the others. */
+static inline uint64_t eight_of(const uint8_t *bytes)
+{
+    uint64_t eight;
+    memcpy(&eight, bytes, sizeof eight);
+    return eight;
+}
+
+static inline uint64_t turned(uint64_t eight)
+{
+    return eight >> 8 | eight << 56;
+}
+
+/* next[c] has the eight cards of camera c's pattern, that of its next frame first. */
+static inline void put_cards(const uint8_t *list, size_t frames, uint64_t *next, uint8_t *cards)
+{
+    for (size_t i = 0; i < frames; i++) {
+        unsigned camera = list[i];
+        uint64_t eight = next[camera];
+        cards[i] = (uint8_t)eight;
+        next[camera] = turned(eight);
+    }
+}
+
+/* Eight frames of one camera at once have the eight cards, which then are as before. Other frames go one by one. */
+static void put_all_cards(const uint8_t *list, size_t frames, uint64_t *next, uint8_t *cards)
+{
+    size_t i = 0;
+    for (; i + 8 <= frames; i += 8) {
+        uint64_t eight = eight_of(list + i);
+        if (eight == turned(eight)) {
+            memcpy(cards + i, &next[list[i]], 8);
+        } else {
+            put_cards(list + i, 8, next, cards + i);
+        }
+    }
+    put_cards(list + i, frames - i, next, cards + i);
+}
+
+dockplan_hub_answer PLAIN(hub)(const uint8_t *patterns, size_t cameras, const uint8_t *list, size_t frames, uint8_t *cards, size_t places)
+{
+    uint64_t next[DOCKPLAN_HUB_CAMERAS];
+    unsigned refusal = hub_refusal(patterns, cameras, list, frames, places);
+    if (refusal != 0) {
+        return (dockplan_hub_answer){.refusal = (uint8_t)refusal};
+    }
+    for (size_t i = 0; i < cameras; i++) {
+        next[i] = eight_of(pattern_cards[patterns[i]]);
+    }
+    put_all_cards(list, frames, next, cards);
+    return (dockplan_hub_answer){.frames = (uint16_t)frames};
 }
 
 /* ---- Plans that anyone made -------------------------------------------------------------------------------------------------------------- */

@@ -15,7 +15,7 @@ pub fn belongs_together() -> bool {
     unsafe { raw::dockplan_version() == raw::VERSION }
 }
 
-/// The number of the refusal that a call met, 1 to 19. It is never 0. A ticket's own are 1 to 9 and 17.
+/// The number of the refusal that a call met, 1 to 21. It is never 0. A ticket's own are 1 to 9 and 17.
 #[derive(Clone, Copy, Debug, PartialEq, Eq)]
 pub struct Refusal(pub u8);
 
@@ -104,6 +104,26 @@ pub fn join(first: &[u8], second: &[u8], out: &mut [u8]) -> Result<usize, Refusa
     };
     accepted(answer.refusal)?;
     Ok(answer.bytes)
+}
+
+/// Puts the card of each frame of a field hub at the front of `cards` and answers how many there are. `patterns` has the
+/// number of a pattern for each camera, `cameras` the number of a camera for each frame. Refusals 20 where there are not 1
+/// to 6 patterns or one is not 0 to 7; then 6 for more than 4,096 frames; then 21 where a camera number is not below the
+/// camera count; then 10 where `cards` has fewer places than there are frames.
+pub fn hub(patterns: &[u8], cameras: &[u8], cards: &mut [u8]) -> Result<u16, Refusal> {
+    // SAFETY: each pointer and count are those of one slice, and `cards` is borrowed alone.
+    let answer = unsafe {
+        raw::dockplan_hub(
+            patterns.as_ptr(),
+            patterns.len(),
+            cameras.as_ptr(),
+            cameras.len(),
+            cards.as_mut_ptr(),
+            cards.len(),
+        )
+    };
+    accepted(answer.refusal)?;
+    Ok(answer.frames)
 }
 
 /// What the checker says of a plan: valid, or the lowest position at fault with the first of its faults.

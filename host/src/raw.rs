@@ -2,7 +2,7 @@
 //! The default of an answer is all zeros, as beside a refusal.
 
 /// The version of the header that this file repeats.
-pub const VERSION: u32 = 105;
+pub const VERSION: u32 = 106;
 
 /// A cycle, counted from 1.
 #[repr(C)]
@@ -51,6 +51,13 @@ pub struct PlanAnswer {
 pub struct JoinAnswer {
     pub refusal: u8,
     pub bytes: usize,
+}
+
+#[repr(C)]
+#[derive(Clone, Copy, Debug, Default, PartialEq, Eq)]
+pub struct HubAnswer {
+    pub refusal: u8,
+    pub frames: u16,
 }
 
 pub const NO_VERDICT: u8 = 0;
@@ -122,6 +129,14 @@ extern "C" {
         ticket: *mut u8,
         places: usize,
     ) -> JoinAnswer;
+    pub fn dockplan_hub(
+        patterns: *const u8,
+        cameras: usize,
+        list: *const u8,
+        frames: usize,
+        cards: *mut u8,
+        places: usize,
+    ) -> HubAnswer;
     pub fn dockplan_check(ticket: *const u8, bytes: usize, plan: *const u16, places: usize) -> CheckAnswer;
     pub fn dockplan_run_plan(ticket: *const u8, bytes: usize, plan: *const u16, places: usize) -> RunAnswer;
     pub fn dockplan_saver_new(cards: u8, pool: u16) -> SaverAnswer;

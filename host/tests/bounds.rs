@@ -158,7 +158,41 @@ fn longest_tickets_to_join() {
     }
 }
 
-/// Memory for a ticket, for another one, for a plan and for a text.
+/// Lists of every length up to 20, of 4,095, of 4,096 and of one frame too many, for no cameras up to 7, in turns and in runs.
+#[test]
+fn lists_for_the_hub() {
+    let mut memory = Memory::new();
+    for cameras in 0..=7_usize {
+        let patterns: Vec<u8> = (0..cameras as u8).collect();
+        for frames in (0..=20).chain([4095, 4096, 4097]) {
+            for run in [1, 9] {
+                let camera = |position: usize| (position / run % cameras.max(1)) as u8;
+                let list: Vec<u8> = (0..frames).map(camera).collect();
+                memory.call_hub(&patterns, &list);
+            }
+        }
+    }
+}
+
+/// A pattern, or a camera number, that there is not, at each place.
+#[test]
+fn refused_by_the_hub() {
+    let mut memory = Memory::new();
+    let (patterns, list) = ([7; 6], [5; 20]);
+    for camera in 0..patterns.len() {
+        let mut spoiled = patterns;
+        spoiled[camera] = 8;
+        memory.call_hub(&spoiled, &list);
+    }
+    for position in 0..list.len() {
+        let mut spoiled = list;
+        spoiled[position] = 6;
+        memory.call_hub(&patterns, &spoiled);
+    }
+}
+
+/// Memory for a ticket, for another one, for a plan and for a text. A hub's list, patterns and cards take the place of two
+/// tickets and a text.
 struct Memory {
     ticket: Guarded,
     other: Guarded,
@@ -224,6 +258,22 @@ impl Memory {
                 let reference = reference::join(first, second, &mut expected);
                 assert_eq!(refusal(dockplan::join(one, other, text)), reference.refusal);
                 assert_eq!(text, expected);
+            }
+        }
+    }
+
+    /// The hub, with buffers of as many places as there are frames and fewer, on both sides.
+    fn call_hub(&mut self, patterns: &[u8], list: &[u8]) {
+        let frames = list.len();
+        for side in [Side::Front, Side::Back] {
+            let cameras = self.ticket.copy(side, list);
+            let numbers = self.other.copy(side, patterns);
+            for places in [0, 1, frames.saturating_sub(1), frames] {
+                let cards = self.text.copy(side, &vec![0xA5; places]);
+                let mut expected = cards.to_vec();
+                let reference = reference::hub(patterns, list, &mut expected);
+                assert_eq!(refusal(dockplan::hub(numbers, cameras, cards)), reference.refusal);
+                assert_eq!(cards, expected);
             }
         }
     }

@@ -1,7 +1,9 @@
-//! Every call of the library beside the reference, on many tickets, plans, saver calls and pairs of tickets from a fixed seed.
-//! The tally at the end says how much was compared, and asserts that no edition, refusal or verdict was left out.
+//! Every call of the library beside the reference, on many tickets, plans, saver calls, pairs of tickets and lists of a hub
+//! from a fixed seed. The tally at the end says how much was compared, and asserts that no edition, refusal or verdict was
+//! left out.
 
 mod generate;
+mod hubs;
 mod judged;
 mod library;
 mod pairs;
@@ -25,6 +27,7 @@ const LONG_FOR_POOLS: u64 = 200 / PARTS;
 const SAVER_SEQUENCES: u64 = 3_000 / PARTS;
 const FULL_SAVERS: u64 = 20 / PARTS;
 const PAIRS: u64 = 80_000 / PARTS;
+const HUBS: u64 = 120_000 / PARTS;
 
 #[test]
 fn every_call_answers_as_the_reference() {
@@ -71,6 +74,10 @@ fn compare_part(seed: u64) -> Tally {
     }
     for _ in 0..LONG_FOR_POOLS {
         same::peaks::compare_pools(&mut random, 1024, &mut tally);
+    }
+    for _ in 0..HUBS {
+        let given = hubs::any(&mut random);
+        same::hub::compare(&mut random, &given, &mut tally);
     }
     tally
 }

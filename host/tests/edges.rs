@@ -100,6 +100,29 @@ fn null_to_join() {
     assert_eq!(text, [0xA5; 26]);
 }
 
+/// The same for each of the three pieces of memory that a hub is lent: no patterns are refused by 20, an empty list is good,
+/// and a null buffer has no places.
+#[test]
+fn null_for_the_hub() {
+    let (patterns, list) = ([0, 7], [0, 1, 0]);
+    let (pattern, camera) = (patterns.as_ptr(), list.as_ptr());
+    let mut cards = [0xA5; 4];
+    let (start, places) = (cards.as_mut_ptr(), cards.len());
+    let refused = |refusal| HubAnswer { refusal, frames: 0 };
+    let no_frames = HubAnswer::default();
+    unsafe {
+        assert_eq!(dockplan_hub(null(), 0, camera, 3, start, places), refused(20));
+        assert_eq!(dockplan_hub(null(), 0, camera, 3, null_mut(), 0), refused(20));
+        assert_eq!(dockplan_hub(null(), 0, null(), 0, start, places), refused(20));
+        assert_eq!(dockplan_hub(null(), 0, null(), 0, null_mut(), 0), refused(20));
+        assert_eq!(dockplan_hub(pattern, 2, camera, 3, null_mut(), 0), refused(10));
+        assert_eq!(dockplan_hub(pattern, 1, camera, 3, null_mut(), 0), refused(21));
+        assert_eq!(dockplan_hub(pattern, 2, null(), 0, start, places), no_frames);
+        assert_eq!(dockplan_hub(pattern, 2, null(), 0, null_mut(), 0), no_frames);
+    }
+    assert_eq!(cards, [0xA5; 4]);
+}
+
 /// The tickets and the checked plan are lent to be read. They stay as they are, wherever in memory they start.
 #[test]
 fn inputs_stay_as_they_are() {
@@ -136,6 +159,26 @@ fn call_with_ticket_at(shift: usize, example: &[u8]) {
     assert_eq!(plan, [2, 1, 2]);
 }
 
+/// The same for the patterns and the list of a hub, which may be the same memory. What lies around the buffer stays, too.
+#[test]
+fn inputs_of_the_hub_stay_as_they_are() {
+    for shift in 0..8 {
+        let mut numbers = vec![0xA5; shift];
+        numbers.extend([0, 5, 2, 1, 4, 3]);
+        let before = numbers.clone();
+        let mut cards = [0xA5; 24];
+        unsafe {
+            let own = numbers.as_mut_ptr().add(shift).cast_const();
+            let answer = dockplan_hub(own, 6, own, 6, cards.as_mut_ptr().add(shift), 8);
+            assert_eq!(answer, HubAnswer { refusal: 0, frames: 6 });
+        }
+        assert_eq!(numbers, before);
+        let mut expected = [0xA5; 24];
+        expected[shift..shift + 6].copy_from_slice(&[0, 0, 0, 4, 4, 0]);
+        assert_eq!(cards, expected);
+    }
+}
+
 /// Two threads call at the same time, and each gets the answers for its own ticket, one of each edition.
 #[test]
 fn two_threads_do_not_meet() {
@@ -168,6 +211,7 @@ fn call_again_and_again(edition_and_mode: &str, second: &str, m: u16) {
         let run = unsafe { dockplan_run_plan(ticket.as_ptr(), ticket.len(), plan.as_ptr(), plan.len()) };
         assert_eq!(run, reference::run_plan(&ticket, &plan));
         join_with_itself(&list, m);
+        gather(&list, m);
         save_all(7, m, &list);
     }
 }
@@ -183,6 +227,16 @@ fn join_with_itself(list: &[u8], m: u16) {
     assert_eq!(dockplan::join(ticket, ticket, &mut joined), Ok(bytes));
     assert_eq!(reference::join(ticket, ticket, &mut expected).bytes, bytes);
     assert_eq!(joined, expected);
+}
+
+/// The list's numbers as those of six cameras, 6 being 0 once more; with another `m` the patterns are others.
+fn gather(list: &[u8], m: u16) {
+    let cameras: Vec<u8> = list.iter().map(|number| number % 6).collect();
+    let patterns = [0, 1, 2, 3, 4, 5].map(|camera| ((camera * m) % 8) as u8);
+    let (mut cards, mut expected) = (vec![0; list.len()], vec![0; list.len()]);
+    assert_eq!(dockplan::hub(&patterns, &cameras, &mut cards), Ok(list.len() as u16));
+    reference::hub(&patterns, &cameras, &mut expected);
+    assert_eq!(cards, expected);
 }
 
 fn save_all(cards: u8, m: u16, list: &[u8]) {
@@ -218,6 +272,7 @@ fn archive_has_the_calls() {
         "plan",
         "print",
         "join",
+        "hub",
         "check",
         "run_plan",
     ] {

@@ -14,6 +14,7 @@ const _: () = {
     assert!(size_of::<CountsAnswer>() == 66 && offset_of!(CountsAnswer, frames) == 2);
     assert!(size_of::<PlanAnswer>() == 4 && offset_of!(PlanAnswer, cycles) == 2);
     assert!(size_of::<JoinAnswer>() == 16 && offset_of!(JoinAnswer, bytes) == 8);
+    assert!(size_of::<HubAnswer>() == 4 && offset_of!(HubAnswer, frames) == 2);
     assert!(size_of::<CheckAnswer>() == 8 && offset_of!(CheckAnswer, position) == 2);
     assert!(size_of::<RunAnswer>() == 12 && offset_of!(RunAnswer, delivered) == 4);
     assert!(size_of::<Saver>() == 3084 && offset_of!(Saver, card) == 11 && offset_of!(Saver, position) == 1036);
@@ -57,6 +58,7 @@ fn structs_are_those_of_the_header() {
         same_layout!(dockplan_counts_answer is CountsAnswer with refusal frames),
         same_layout!(dockplan_plan_answer is PlanAnswer with refusal cycles),
         same_layout!(dockplan_join_answer is JoinAnswer with refusal bytes),
+        same_layout!(dockplan_hub_answer is HubAnswer with refusal frames),
         same_layout!(dockplan_check_answer is CheckAnswer with refusal verdict position cycles peak),
         same_layout!(dockplan_run_answer is RunAnswer with refusal broken complete delivered ended needed peak),
         same_layout!(dockplan_saver is Saver with cards pool taken made waiting closing card position),
@@ -92,6 +94,7 @@ in_header! {
     CountsAnswer as "dockplan_counts_answer"
     PlanAnswer as "dockplan_plan_answer"
     JoinAnswer as "dockplan_join_answer"
+    HubAnswer as "dockplan_hub_answer"
     CheckAnswer as "dockplan_check_answer"
     RunAnswer as "dockplan_run_answer"
     Saver as "dockplan_saver"
@@ -120,6 +123,7 @@ fn calls_are_those_of_the_header() {
         same_call!(dockplan_plan(*const u8, usize, *mut u16, usize) -> PlanAnswer),
         same_call!(dockplan_print(*const u8, usize, *mut u8, usize) -> usize),
         same_call!(dockplan_join(*const u8, usize, *const u8, usize, *mut u8, usize) -> JoinAnswer),
+        same_call!(dockplan_hub(*const u8, usize, *const u8, usize, *mut u8, usize) -> HubAnswer),
         same_call!(dockplan_check(*const u8, usize, *const u16, usize) -> CheckAnswer),
         same_call!(dockplan_run_plan(*const u8, usize, *const u16, usize) -> RunAnswer),
         same_call!(dockplan_saver_new(u8, u16) -> SaverAnswer),
@@ -162,6 +166,8 @@ fn constants_are_those_of_the_header() {
         ("MAX_FRAMES", 4096),
         ("MAX_TICKET_BYTES", 15 + 11 * 4096),
         ("MAX_PRINTED_BYTES", 5 + 11 * 4096),
+        ("HUB_CAMERAS", 6),
+        ("HUB_CARDS", 8),
         ("READ", 0),
         ("SAVE", 1),
         ("SAVE_AND_KEEP", 2),

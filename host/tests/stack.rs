@@ -2,7 +2,7 @@
 //! `cargo test --test stack -- --nocapture` prints the table. The measure itself is in c/stack.c.
 
 use dockplan::raw::{
-    self, CheckAnswer, CountsAnswer, JoinAnswer, Part, PlanAnswer, Position, RunAnswer, Saver, SaverAnswer,
+    self, CheckAnswer, CountsAnswer, HubAnswer, JoinAnswer, Part, PlanAnswer, Position, RunAnswer, Saver, SaverAnswer,
     TicketAnswer,
 };
 use std::ffi::c_void;
@@ -258,6 +258,39 @@ fn the_pairs_are_joined_or_meet_every_refusal() {
     assert!((0..met.len()).all(|number| met[number] >= least(number)), "{met:?}");
 }
 
+/// Patterns and a list for a hub, and the number of their refusal in a buffer with room for all: six cameras and one, with
+/// the longest lists, in turns, in runs and mixed, and with the shortest; and one for each refusal, which for 21 is at the
+/// last frame.
+fn hubs() -> Vec<(Vec<u8>, Vec<u8>, u8)> {
+    let list = |frames, camera: fn(usize) -> usize| (0..frames).map(|position| camera(position) as u8).collect();
+    let [in_turns, in_runs]: [fn(usize) -> usize; 2] = [|position| position % 6, |position| position / 9 % 6];
+    let mixed: fn(usize) -> usize = |position| position * position / 7 % 6;
+    let last_at_fault: fn(usize) -> usize = |position| if position == MAX_FRAMES - 1 { 6 } else { position % 6 };
+    let [one, six, seven, no_pattern] = [vec![7], vec![0, 1, 2, 5, 6, 7], vec![0; 7], vec![0, 8]];
+    vec![
+        (six.clone(), list(MAX_FRAMES, in_turns), 0),
+        (six.clone(), list(MAX_FRAMES, in_runs), 0),
+        (six.clone(), list(MAX_FRAMES, mixed), 0),
+        (one.clone(), vec![0; MAX_FRAMES], 0),
+        (one, vec![0], 0),
+        (six.clone(), vec![], 0),
+        (vec![], vec![], 20),
+        (seven, list(MAX_FRAMES, in_turns), 20),
+        (no_pattern, vec![0; MAX_FRAMES], 20),
+        (six.clone(), list(MAX_FRAMES + 1, in_turns), 6),
+        (six, list(MAX_FRAMES, last_at_fault), 21),
+    ]
+}
+
+#[test]
+fn the_hubs_give_cards_or_meet_every_refusal() {
+    for (patterns, list, refusal) in hubs() {
+        let mut cards = vec![0; MAX_FRAMES];
+        let found = dockplan::hub(&patterns, &list, &mut cards).map_or_else(|refusal| refusal.0, |_| 0);
+        assert_eq!(found, refusal);
+    }
+}
+
 /// Records of savers: new ones, with a full pool, with all frames taken, closing, and the one of a refused new saver.
 fn savers() -> Vec<Saver> {
     let new = |cards, pool| unsafe { raw::dockplan_saver_new(cards, pool) }.saver;
@@ -342,6 +375,32 @@ fn join() -> usize {
         })
     };
     with(0).max(with(MAX_TICKET_BYTES))
+}
+
+/// A hub, with what each is given: in a buffer without places, and in one with room for all.
+fn hub() -> usize {
+    type Call = unsafe extern "C" fn(*const u8, usize, *const u8, usize, *mut u8, usize) -> MaybeUninit<HubAnswer>;
+    let mut buffer = vec![0; MAX_FRAMES];
+    let start = buffer.as_mut_ptr();
+    let hubs = hubs();
+    let with = |places| {
+        most(
+            raw::dockplan_hub as Address,
+            &hubs,
+            |call, (patterns, list, _)| unsafe {
+                let call = transmute::<Address, Call>(call);
+                black_box(call(
+                    patterns.as_ptr(),
+                    patterns.len(),
+                    list.as_ptr(),
+                    list.len(),
+                    start,
+                    places,
+                ));
+            },
+        )
+    };
+    with(0).max(with(MAX_FRAMES))
 }
 
 /// A call on a ticket and a plan.
@@ -431,6 +490,7 @@ fn figures() -> Vec<Figure> {
             0,
         ),
         figure("JOIN", join(), 0, 0),
+        figure("HUB", hub(), 0, 0),
         figure("CHECK", on_plan::<CheckAnswer>(raw::dockplan_check as Address), 0, 0),
         figure(
             "RUN_PLAN",

@@ -1,9 +1,10 @@
 //! Compares the implementations' answers before anything is measured: whole answers, and all of each buffer.
 
+use crate::hubs::{self, Hub};
 use crate::implementations::Implementation;
 use crate::inputs::{self, Random, MAX_FRAMES, MAX_PRINTED_BYTES, MAX_TICKET_BYTES};
 use crate::pairs::{self, Pair};
-use dockplan::raw::{CheckAnswer, JoinAnswer, PlanAnswer, TicketAnswer};
+use dockplan::raw::{CheckAnswer, HubAnswer, JoinAnswer, PlanAnswer, TicketAnswer};
 use std::collections::BTreeSet;
 
 /// What a implementation answers for one ticket, with the buffers after each call.
@@ -133,6 +134,31 @@ pub fn compare_join(library: &Implementation, others: &[&Implementation], pair: 
     }
 }
 
+/// What an implementation answers for a hub, with the buffers after each call.
+type Gathered = Vec<(HubAnswer, Vec<u8>)>;
+
+fn gathered(implementation: &Implementation, Hub { patterns, cameras }: &Hub) -> Gathered {
+    let gather = |places| {
+        let mut out = vec![0xAB; places];
+        (implementation.hub(patterns, cameras, &mut out), out)
+    };
+    lengths(cameras.len(), MAX_FRAMES).map(gather).into()
+}
+
+/// Compares the cards of a hub, and gives the library's.
+pub fn compare_hub(library: &Implementation, others: &[&Implementation], hub: &Hub) -> Result<Gathered, String> {
+    let expected = gathered(library, hub);
+    match others.iter().find(|other| gathered(other, hub) != expected) {
+        Some(other) => {
+            let (name, Hub { patterns, cameras }) = (other.name, hub);
+            Err(format!(
+                "{name} gives other cards than the library: patterns {patterns:?}, cameras {cameras:?}"
+            ))
+        }
+        None => Ok(expected),
+    }
+}
+
 /// Compares the answers for these tickets, and for so many mixed ones, good and bad. Every refusal and every verdict must
 /// be among them, or the comparison would be worth little.
 pub fn compare_all(
@@ -170,10 +196,23 @@ pub fn compare_joins(library: &Implementation, others: &[&Implementation], mixed
     none_missing(&missing)
 }
 
+/// The same for so many mixed patterns and lists of a hub.
+pub fn compare_hubs(library: &Implementation, others: &[&Implementation], mixed: usize) -> Result<(), String> {
+    let mut random = Random::new(0xE703_7ED1_A0B4_28DB);
+    let mut missing: BTreeSet<Kind> = [0, 6, 10, 20, 21].map(Kind::Refusal).into();
+    for _ in 0..mixed {
+        let hub = hubs::mixed(&mut random);
+        for (answer, _) in compare_hub(library, others, &hub)? {
+            missing.remove(&Kind::Refusal(answer.refusal));
+        }
+    }
+    none_missing(&missing)
+}
+
 fn none_missing(missing: &BTreeSet<Kind>) -> Result<(), String> {
     if missing.is_empty() {
         Ok(())
     } else {
-        Err(format!("no ticket was compared that gives {missing:?}"))
+        Err(format!("nothing was compared that gives {missing:?}"))
     }
 }

@@ -1,7 +1,7 @@
 //! Who is measured: the library, plain C by each compiler, and the simple Rust reference.
 //! All are called through pointers of one type, so that none is inlined into the measure.
 
-use dockplan::raw::{self, CheckAnswer, JoinAnswer, PlanAnswer, TicketAnswer};
+use dockplan::raw::{self, CheckAnswer, HubAnswer, JoinAnswer, PlanAnswer, TicketAnswer};
 use dockplan::reference;
 use std::slice::{from_raw_parts, from_raw_parts_mut};
 
@@ -10,6 +10,7 @@ type Plan = unsafe extern "C" fn(*const u8, usize, *mut u16, usize) -> PlanAnswe
 type Check = unsafe extern "C" fn(*const u8, usize, *const u16, usize) -> CheckAnswer;
 type Print = unsafe extern "C" fn(*const u8, usize, *mut u8, usize) -> usize;
 type Join = unsafe extern "C" fn(*const u8, usize, *const u8, usize, *mut u8, usize) -> JoinAnswer;
+type Gather = unsafe extern "C" fn(*const u8, usize, *const u8, usize, *mut u8, usize) -> HubAnswer;
 
 pub struct Implementation {
     pub name: &'static str,
@@ -18,6 +19,7 @@ pub struct Implementation {
     check: Check,
     print: Print,
     join: Join,
+    hub: Gather,
 }
 
 // SAFETY of these calls: each pointer and count are those of one slice, and what is written is borrowed alone.
@@ -42,6 +44,11 @@ impl Implementation {
         let (one, other, ticket) = (first.as_ptr(), second.as_ptr(), out.as_mut_ptr());
         unsafe { (self.join)(one, first.len(), other, second.len(), ticket, out.len()) }
     }
+
+    pub fn hub(&self, patterns: &[u8], cameras: &[u8], out: &mut [u8]) -> HubAnswer {
+        let (pattern, list, cards) = (patterns.as_ptr(), cameras.as_ptr(), out.as_mut_ptr());
+        unsafe { (self.hub)(pattern, patterns.len(), list, cameras.len(), cards, out.len()) }
+    }
 }
 
 pub const LIBRARY: Implementation = Implementation {
@@ -51,6 +58,7 @@ pub const LIBRARY: Implementation = Implementation {
     check: raw::dockplan_check,
     print: raw::dockplan_print,
     join: raw::dockplan_join,
+    hub: raw::dockplan_hub,
 };
 
 /// c/plain.c by each compiler that is there.
@@ -62,6 +70,7 @@ pub const C: &[Implementation] = &[
         check: gcc_check,
         print: gcc_print,
         join: gcc_join,
+        hub: gcc_hub,
     },
     #[cfg(clang)]
     Implementation {
@@ -71,6 +80,7 @@ pub const C: &[Implementation] = &[
         check: clang_check,
         print: clang_print,
         join: clang_join,
+        hub: clang_hub,
     },
 ];
 
@@ -82,6 +92,7 @@ pub const RUST: Implementation = Implementation {
     check: rust_check,
     print: rust_print,
     join: rust_join,
+    hub: rust_hub,
 };
 
 extern "C" {
@@ -97,6 +108,14 @@ extern "C" {
         ticket: *mut u8,
         places: usize,
     ) -> JoinAnswer;
+    fn gcc_hub(
+        patterns: *const u8,
+        cameras: usize,
+        list: *const u8,
+        frames: usize,
+        cards: *mut u8,
+        places: usize,
+    ) -> HubAnswer;
 }
 
 #[cfg(clang)]
@@ -113,6 +132,14 @@ extern "C" {
         ticket: *mut u8,
         places: usize,
     ) -> JoinAnswer;
+    fn clang_hub(
+        patterns: *const u8,
+        cameras: usize,
+        list: *const u8,
+        frames: usize,
+        cards: *mut u8,
+        places: usize,
+    ) -> HubAnswer;
 }
 
 unsafe extern "C" fn rust_parse(ticket: *const u8, bytes: usize) -> TicketAnswer {
@@ -141,4 +168,16 @@ unsafe extern "C" fn rust_join(
 ) -> JoinAnswer {
     let (first, second) = (from_raw_parts(first, first_bytes), from_raw_parts(second, second_bytes));
     reference::join(first, second, from_raw_parts_mut(ticket, places))
+}
+
+unsafe extern "C" fn rust_hub(
+    patterns: *const u8,
+    cameras: usize,
+    list: *const u8,
+    frames: usize,
+    cards: *mut u8,
+    places: usize,
+) -> HubAnswer {
+    let (patterns, list) = (from_raw_parts(patterns, cameras), from_raw_parts(list, frames));
+    reference::hub(patterns, list, from_raw_parts_mut(cards, places))
 }

@@ -3,6 +3,7 @@
 
 mod alone;
 mod compare;
+mod hubs;
 mod implementations;
 mod inputs;
 mod instructions;
@@ -18,9 +19,10 @@ use std::env;
 use std::process::ExitCode;
 use table::{Measures, Tally};
 
-/// How many mixed tickets are compared, and how many pairs of them.
+/// How many mixed tickets are compared, how many pairs of them, and how many lists of a hub.
 const MIXED_TICKETS: usize = 4000;
 const MIXED_PAIRS: usize = 8000;
+const MIXED_HUBS: usize = 20_000;
 
 /// Those the library is compared with: each C compiler, then Rust.
 fn others() -> Vec<&'static Implementation> {
@@ -38,10 +40,14 @@ fn compare_answers(lists: &[List], rows: &[Row]) -> Result<(), String> {
     let tickets: Vec<Vec<u8>> = lists.iter().flat_map(of_list).collect();
     compare::compare_all(&LIBRARY, &others(), &tickets, MIXED_TICKETS)?;
     compare::compare_joins(&LIBRARY, &others(), MIXED_PAIRS)?;
+    compare::compare_hubs(&LIBRARY, &others(), MIXED_HUBS)?;
     for row in rows {
         compare::compare_check(&LIBRARY, &others(), &row.work.ticket, &row.work.checked)?;
         for pair in &row.work.pairs {
             compare::compare_join(&LIBRARY, &others(), pair)?;
+        }
+        for hub in &row.work.hubs {
+            compare::compare_hub(&LIBRARY, &others(), hub)?;
         }
     }
     Ok(())

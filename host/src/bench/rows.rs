@@ -1,6 +1,7 @@
 //! What is measured: the calls, what each is given, and what it should reach.
 
 use crate::compare::own_plan;
+use crate::hubs::{self, Hub};
 use crate::implementations::{Implementation, LIBRARY};
 use crate::inputs::{self, List, MAX_FRAMES, MAX_PRINTED_BYTES, MAX_TICKET_BYTES};
 use crate::pairs::{self, Pair};
@@ -28,17 +29,19 @@ pub struct Row {
     pub work: Work,
 }
 
-/// What a measured call is given: a ticket and a plan to check, or two tickets to join, another pair in each call if there
-/// are more; and buffers that are not cleared between calls.
+/// What a measured call is given: a ticket and a plan to check, or two tickets to join, or the patterns and list of a hub,
+/// another pair or another list in each call if there are more; and buffers that are not cleared between calls.
 pub struct Work {
     pub ticket: Vec<u8>,
     pub checked: Vec<u16>,
     pub pairs: Vec<Pair>,
+    pub hubs: Vec<Hub>,
     pub frames: usize,
     calls: usize,
     plan: Vec<u16>,
     text: Vec<u8>,
     joined: Vec<u8>,
+    cards: Vec<u8>,
 }
 
 impl Work {
@@ -48,10 +51,12 @@ impl Work {
             ticket,
             checked,
             pairs: Vec::new(),
+            hubs: Vec::new(),
             calls: 0,
             plan: vec![0; MAX_FRAMES],
             text: vec![0; MAX_PRINTED_BYTES],
             joined: vec![0; MAX_TICKET_BYTES],
+            cards: vec![0; MAX_FRAMES],
         }
     }
 
@@ -60,6 +65,15 @@ impl Work {
         Work {
             pairs,
             frames,
+            ..Work::new(Vec::new(), Vec::new())
+        }
+    }
+
+    /// Patterns and lists of 4,096 frames for a hub.
+    fn to_gather(hubs: Vec<Hub>) -> Work {
+        Work {
+            hubs,
+            frames: MAX_FRAMES,
             ..Work::new(Vec::new(), Vec::new())
         }
     }
@@ -85,6 +99,12 @@ fn join(implementation: &Implementation, work: &mut Work) {
     work.calls += 1;
     let [first, second] = &work.pairs[work.calls % work.pairs.len()];
     black_box(implementation.join(black_box(first), black_box(second), black_box(&mut work.joined)));
+}
+
+fn hub(implementation: &Implementation, work: &mut Work) {
+    work.calls += 1;
+    let Hub { patterns, cameras } = &work.hubs[work.calls % work.hubs.len()];
+    black_box(implementation.hub(black_box(patterns), black_box(cameras), black_box(&mut work.cards)));
 }
 
 fn mode_name(mode: usize) -> &'static str {
@@ -167,6 +187,18 @@ fn join_rows(list: &List) -> Vec<Row> {
     pairs::halves(list).into_iter().map(row).collect()
 }
 
+/// The cards of a hub's lists.
+fn hub_rows() -> Vec<Row> {
+    let row = |lists: hubs::Lists| Row {
+        call: "hub",
+        given: lists.name.into(),
+        target: OTHERS,
+        make: hub,
+        work: Work::to_gather(lists.hubs),
+    };
+    hubs::lists().into_iter().map(row).collect()
+}
+
 /// The checker on plans that are not ours: in blocks, for a pool of their own; hopeless ones; and ones close to ours.
 fn foreign_rows(list: &List) -> Vec<Row> {
     let of_mode = |mode| {
@@ -197,5 +229,6 @@ pub fn rows(lists: &[List]) -> Vec<Row> {
         .chain(foreign_rows(&lists[0]))
         .chain(lists.iter().flat_map(seconds_rows))
         .chain(join_rows(&lists[0]))
+        .chain(hub_rows())
         .collect()
 }

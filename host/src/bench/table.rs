@@ -115,7 +115,7 @@ pub fn print_head(c: &[Implementation], counted: bool) {
     println!("library    libdockplan.a, called as C calls it");
     println!("C          c/plain.c at -O3 by {}", compilers.join(" and by "));
     println!(
-        "Rust-ref   src/reference by {}: simple and not tuned, its checker counts by the rule",
+        "Rust-ref   src/reference by {}: simple and not tuned, its checker and its hub count by the rule",
         first_line("rustc")
     );
     println!("given      4,096 frames over 32 cards, and the kind of ticket, of edition 01 where none is named; the checker also a plan:");
@@ -129,6 +129,8 @@ pub fn print_head(c: &[Implementation], counted: bool) {
     println!("           own, 5,000 cycles later: the planner's with 5,000 added to each cycle, valid and over 4,096");
     println!("           joining is given two tickets of edition 02 between which the frames, one in each second, are dealt: each to any of");
     println!("           the two, in 64 pairs of which each call has the next one; the first 2,048 and the others; or by 64 in turns");
+    println!("           a hub is given no ticket but the camera of each of 4,096 frames: one, or six, which take turns, are at random in 64");
+    println!("           lists of which each call has the next one, or have runs of 100 frames each");
     println!("ns         nanoseconds a frame, of all 4,096 also where the check ends early: the least of {TURNS} runs of 0.25 ms, all taken in");
     println!("           turns; buffers are not cleared between calls");
     println!(

@@ -4,6 +4,7 @@
 
 mod checker;
 mod dock;
+mod hub;
 mod join;
 mod print;
 mod saver;
@@ -12,7 +13,9 @@ mod ticket;
 
 pub use saver::Saver;
 
-use crate::raw::{CheckAnswer, CountsAnswer, Cycle, JoinAnswer, Part, PlanAnswer, Position, RunAnswer, TicketAnswer};
+use crate::raw::{
+    CheckAnswer, CountsAnswer, Cycle, HubAnswer, JoinAnswer, Part, PlanAnswer, Position, RunAnswer, TicketAnswer,
+};
 use dock::{Run, Step};
 use ticket::Ticket;
 
@@ -114,6 +117,25 @@ fn join_or_refusal(first: &[u8], second: &[u8], out: &mut [u8]) -> Result<usize,
     let places = out.get_mut(..text.len()).ok_or(10)?;
     places.copy_from_slice(&text);
     Ok(text.len())
+}
+
+/// "Places past the list are kept." The frames of the list are answered.
+pub fn hub(patterns: &[u8], cameras: &[u8], out: &mut [u8]) -> HubAnswer {
+    match hub_or_refusal(patterns, cameras, out) {
+        Ok(frames) => HubAnswer { refusal: 0, frames },
+        Err(refusal) => HubAnswer {
+            refusal,
+            ..Default::default()
+        },
+    }
+}
+
+/// The refusals of the patterns and the list, "a short buffer 10 and last".
+fn hub_or_refusal(patterns: &[u8], cameras: &[u8], out: &mut [u8]) -> Result<u16, u8> {
+    hub::allowed(patterns, cameras)?;
+    let places = out.get_mut(..cameras.len()).ok_or(10)?;
+    places.copy_from_slice(&hub::cards(patterns, cameras));
+    Ok(cameras.len() as u16)
 }
 
 /// "Beside a refusal's number, other numbers of the answer are 0."

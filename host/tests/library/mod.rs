@@ -32,6 +32,11 @@ pub fn join(first: &[u8], second: &[u8], out: &mut [u8]) -> JoinAnswer {
     unsafe { dockplan_join(one, first.len(), other, second.len(), ticket, out.len()) }
 }
 
+pub fn hub(patterns: &[u8], cameras: &[u8], out: &mut [u8]) -> HubAnswer {
+    let (pattern, list, cards) = (patterns.as_ptr(), cameras.as_ptr(), out.as_mut_ptr());
+    unsafe { dockplan_hub(pattern, patterns.len(), list, cameras.len(), cards, out.len()) }
+}
+
 pub fn check(ticket: &[u8], plan: &[u16]) -> CheckAnswer {
     unsafe { dockplan_check(ticket.as_ptr(), ticket.len(), plan.as_ptr(), plan.len()) }
 }

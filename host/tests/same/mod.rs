@@ -1,7 +1,9 @@
 //! The comparisons: each call's whole answer and the whole lent memory, of the library and of the reference; the library's
-//! answers for two tickets that must be answered alike; and what must hold of a joined ticket and of a peak.
+//! answers for two tickets that must be answered alike; and what must hold of a joined ticket, of a peak and of a hub's
+//! cards.
 
 pub mod foreign;
+pub mod hub;
 pub mod joining;
 pub mod judging;
 pub mod peaks;

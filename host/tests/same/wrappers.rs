@@ -3,7 +3,9 @@
 use crate::generate::Random;
 use crate::library;
 use crate::tally::Tally;
-use dockplan::raw::{self, CheckAnswer, CountsAnswer, JoinAnswer, PlanAnswer, RunAnswer, SaverAnswer, TicketAnswer};
+use dockplan::raw::{
+    self, CheckAnswer, CountsAnswer, HubAnswer, JoinAnswer, PlanAnswer, RunAnswer, SaverAnswer, TicketAnswer,
+};
 use dockplan::{Cycle, Position, Refusal, Run, Saved, Saver, Verdict};
 
 /// Compares every wrapper on one ticket and one plan.
@@ -64,6 +66,16 @@ pub fn compare_join(first: &[u8], second: &[u8], places: usize) {
     assert_eq!(
         join_answer(dockplan::join(first, second, &mut one)),
         library::join(first, second, &mut other)
+    );
+    assert_eq!(one, other);
+}
+
+/// Compares the wrapped hub with a buffer of that many places.
+pub fn compare_hub(patterns: &[u8], cameras: &[u8], places: usize) {
+    let (mut one, mut other) = (vec![0xA5; places], vec![0xA5; places]);
+    assert_eq!(
+        hub_answer(dockplan::hub(patterns, cameras, &mut one)),
+        library::hub(patterns, cameras, &mut other)
     );
     assert_eq!(one, other);
 }
@@ -142,6 +154,16 @@ fn join_answer(wrapped: Result<usize, Refusal>) -> JoinAnswer {
     match wrapped {
         Ok(bytes) => JoinAnswer { refusal: 0, bytes },
         Err(Refusal(refusal)) => JoinAnswer {
+            refusal,
+            ..Default::default()
+        },
+    }
+}
+
+fn hub_answer(wrapped: Result<u16, Refusal>) -> HubAnswer {
+    match wrapped {
+        Ok(frames) => HubAnswer { refusal: 0, frames },
+        Err(Refusal(refusal)) => HubAnswer {
             refusal,
             ..Default::default()
         },

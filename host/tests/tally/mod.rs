@@ -1,10 +1,12 @@
 //! Counts of what was compared, so that a comparison of too little is seen.
 
+mod hub;
 mod joins;
 mod peaks;
 mod verdicts;
 
 use dockplan::raw::{CheckAnswer, RunAnswer};
+use hub::Hubs;
 use joins::Joins;
 use peaks::Peaks;
 use verdicts::Verdicts;
@@ -32,12 +34,13 @@ pub struct Tally {
     pub verdicts: Verdicts,
     pub peaks: Peaks,
     pub joins: Joins,
+    pub hubs: Hubs,
     broken: u64,
     complete: u64,
     incomplete: u64,
 }
 
-/// The numbers of the refusals of one ticket or saver, and 0. Those of two tickets are over them.
+/// The numbers of the refusals of one ticket or saver, and 0. Those of two tickets and of a hub are over them.
 const NUMBERS: usize = 18;
 
 /// The refusals that a saver's calls can meet.
@@ -110,6 +113,7 @@ impl Tally {
         self.verdicts.add(&other.verdicts);
         self.peaks.add(&other.peaks);
         self.joins.add(&other.joins);
+        self.hubs.add(&other.hubs);
     }
 
     pub fn print(&self) {
@@ -141,6 +145,7 @@ impl Tally {
         );
         self.peaks.print();
         self.joins.print();
+        self.hubs.print();
     }
 
     /// The comparison had enough of everything.
@@ -161,6 +166,7 @@ impl Tally {
         self.verdicts.assert_not_rare();
         self.peaks.assert_not_rare();
         self.joins.assert_not_rare();
+        self.hubs.assert_not_rare();
     }
 }
 
