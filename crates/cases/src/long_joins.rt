@@ -33,7 +33,7 @@ fn wide(x: u8) -> u64 {
 }
 
 // The checksum of long_lists.rt, of a text.
-fn checksum(text: &[u8]) -> u64 {
+pub(crate) fn checksum(text: &[u8]) -> u64 {
     let n = text.len();
     let mut running: u64 = 0;
     let mut sum: u64 = 0;

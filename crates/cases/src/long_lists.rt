@@ -7,13 +7,13 @@ use crate::tables;
 // The bytes of such a ticket, of edition 01.
 pub(crate) const LONG: usize = 15 + 3 * 4096;
 
-fn digit(x: usize) -> u8 {
+pub(crate) fn digit(x: usize) -> u8 {
     let low = (x % 16) as u8;
     if low < 10 { b'0' + low } else { b'7' + low }
 }
 
 // Byte i of a line of edition 01.
-fn line_byte(i: usize, card: usize) -> u8 {
+pub(crate) fn line_byte(i: usize, card: usize) -> u8 {
     match i {
         0 => digit(card / 16),
         1 => digit(card),

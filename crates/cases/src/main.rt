@@ -3,8 +3,11 @@
 mod checks;
 mod counts;
 mod docks;
+mod hub_plans;
+mod hubs;
 mod joins;
 mod library;
+mod long_hubs;
 mod long_joins;
 mod long_lists;
 mod output;

@@ -1,14 +1,17 @@
 // The tables: one text. In it # ends a text that is printed as it stands, and | ends an entry, which is shown. > ends a word that says how the
-// entries after it are shown, by its first letter. An entry is a ticket, a new saver or a plan; what follows the first space in it goes with that:
-// a plan, steps of the dock, calls of the saver, the layout of a long list, a frame's position and m, a dot for each place that a lent buffer has
-// less, or the ticket to join it with, and after another space dots for the places lent.
+// entries after it are shown, by its first letter. An entry is a ticket, a new saver, a plan or the patterns of the hub; what follows the first
+// space in it goes with that: a plan, steps of the dock, calls of the saver, the layout of a long list, a frame's position and m, a dot for each
+// place that a lent buffer has less, or the ticket to join it with or the cameras of the hub, and after another space dots for the places lent.
 ghost use Prim.Native.Nat.{_≤_};
 ghost use lib.ListN.{length};
 use crate::checks;
 use crate::counts;
 use crate::docks;
+use crate::hub_plans;
+use crate::hubs;
 use crate::joins;
 use crate::library;
+use crate::long_hubs;
 use crate::long_joins;
 use crate::long_lists;
 use crate::output;
@@ -35,6 +38,10 @@ fn show_as(how: u8, t: &[u8], more: &[u8]) {
         b'j' => joins::joined(t, more, false),
         b'J' => joins::joined(t, more, true),
         b'L' => long_joins::joined(t, more),
+        b'g' => hubs::gathered(t, more, false),
+        b'G' => hubs::gathered(t, more, true),
+        b'h' => hub_plans::planned(t, more),
+        b'H' => long_hubs::gathered(t, more),
         b'c' => checks::checked(t, more),
         b'n' => counts::counted(t, more),
         b'C' => library::called(t, more),
@@ -119,6 +126,7 @@ pub(crate) fn number(b: u8) -> u16 {
         b'D' => 33,
         b'P' => 1024,
         b'Q' => 1025,
+        b'J' => 4095,
         b'K' => 4096,
         b'M' => 4097,
         b'L' => 65535,
