@@ -12,7 +12,8 @@ use Rattle.hub.proofs.place_each.Statement.{statement}
 use Rattle.hub.proofs.place_each.Tie as tie
 
 abbrev Inv-loop : tie.InvT-loop
-Inv-loop cameras from to words₀ cards₀ i₀ words cards i = (from ≤ i) × (i ≤ to) × (length words ≡ length words₀) × (length cards ≡ length cards₀) × Places cameras from i words₀ cards₀ words cards
+Inv-loop cameras from to words₀ cards₀ i₀ words cards i =
+    (from ≤ i) × (i ≤ to) × (length words ≡ length words₀) × (length cards ≡ length cards₀) × Places cameras from i words₀ cards₀ words cards
 
 abbrev μ-loop : tie.MeasureT-loop
 μ-loop cameras from to words₀ cards₀ i₀ words cards i = to - i
@@ -77,7 +78,8 @@ loop-again c =
       length-set (at .cards) (at .i) _ ∙ at .inv .3,
       λ chosen before known seen room p.
           let so-far = at .inv .4 chosen before known seen room p in
-          rw (c .turned .ensures) (placing-next chosen _ before known seen room (at .i) (at .words) (at .cards) so-far inside camera (c .before .before .index .ensures)),
+          let is = c .before .before .index .ensures in
+          rw (c .turned .ensures) (placing-next chosen _ before known seen room (at .i) (at .words) (at .cards) so-far inside camera is),
     )
 
 same-length : tie.Need-same-length Inv-loop μ-loop

@@ -13,7 +13,8 @@ use Rattle.hub.proofs.words.put_eight.Statement.{statement}
 use Rattle.hub.proofs.words.put_eight.Tie as tie
 
 abbrev Inv-loop : tie.InvT-loop
-Inv-loop out₀ at word rest₀ j₀ out rest j = (j ≤ 8) × (length out ≡ length out₀) × (sets out (at + j) (lowBytes (8 - j) rest) ≡ sets out₀ at (lowBytes 8 word))
+Inv-loop out₀ at word rest₀ j₀ out rest j =
+    (j ≤ 8) × (length out ≡ length out₀) × (sets out (at + j) (lowBytes (8 - j) rest) ≡ sets out₀ at (lowBytes 8 word))
 
 abbrev μ-loop : tie.MeasureT-loop
 μ-loop out₀ at word rest₀ j₀ out rest j = 8 - j
