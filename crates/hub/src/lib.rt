@@ -86,7 +86,7 @@ fn place_each(cameras: &[u8], from: usize, to: usize, words: &mut [u64; CAMERAS]
 // Whether the eight frames from a place on are all of one camera.
 fn all_of(camera: u8, cameras: &[u8], at: usize) -> bool
     requires { ⌜ at + 8 ≤ length (now cameras) ⌝ }
-    ensures { λ r. ⌜ (r ≡ true → AllOf camera (now (cameras .entry)) at hubSize) ⌝ }
+    ensures { λ r. ⌜ (r ≡ true → AllOf camera (now (cameras .entry)) at hubSize) × (AllOf camera (now (cameras .entry)) at hubSize → r ≡ true) ⌝ }
 {
     let mut same = true;
     let mut j: usize = 0;

@@ -65,7 +65,7 @@ loop-again c =
     let entry = c .before .before .before .before .before .before .before .before .before .before .before .before .before .before in
     let at = c .before .before .before .before .before .before .before .before .before .loop in
     let camera = getD (now (entry .args .cameras)) (at .i) 0 in
-    let same = c .before .before .before .before .before .before .all-of .ensures (c .before .before .before .before .before .if1 .taken) in
+    let same = c .before .before .before .before .before .before .all-of .ensures .0 (c .before .before .before .before .before .if1 .taken) in
     let block =
     placing-eight _ _ _ (entry .pre .known) (entry .pre .seen) (entry .pre .room) (at .i) (at .words) (at .cards) (at .inv .1) (omega arith) camera same in
     (omega arith, rw (c .before .before .put-eight .ensures, c .before .before .before .index .ensures) block)
