@@ -37,7 +37,7 @@
  *    2  edition is neither 01 nor 02                            12  the checker is given mode 02
  *    3  mode is over 02                                         13  the saver has taken 4,096 frames
  *    4  cards not 1 to 32                                       14  a closing cycle with an empty pool
- *    5  pool not 1 to 1,024                                     15  a save after closing has begun
+ *    5  pool not 1 to 192                                       15  a save after closing has begun
  *    6  frames over 4,096, in a ticket or in a hub's list       16  a line is wanted at a position not below L
  *    7  a frame line is missing or is not the digits of         17  a second is lower than that of the line before
  *       the edition, 2 or 10, and an end byte                   18  of two tickets to join, one is not edition 02 or
@@ -58,16 +58,16 @@
 extern "C" {
 #endif
 
-/* The version of this header: 106 for 1.6. It grows whenever a call is added or changed, or uses more stack. */
-#define DOCKPLAN_VERSION 106
+/* The version of this header: 107 for 1.7. It grows whenever a call is added or changed, or uses more stack. */
+#define DOCKPLAN_VERSION 107
 
 /* The version of the archive. Header and archive belong together exactly when this is DOCKPLAN_VERSION. */
 uint32_t dockplan_version(void);
 #define DOCKPLAN_STACK_VERSION 0
 
-/* The limits of a ticket. The longest one is of edition 02. */
+/* The limits of a ticket; those of cards and pool are a saver's too. The longest ticket is of edition 02. */
 #define DOCKPLAN_MAX_CARDS 32
-#define DOCKPLAN_MAX_POOL 1024
+#define DOCKPLAN_MAX_POOL 192
 #define DOCKPLAN_MAX_FRAMES 4096
 #define DOCKPLAN_MAX_TICKET_BYTES 45071
 /* The bytes of the longest printed plan. */
@@ -140,10 +140,10 @@ typedef struct {
     dockplan_cycle cycles;
 } dockplan_plan_answer;
 
-/* Plans a ticket. The read plan is lazy prefetching: no way of driving the dock needs fewer than its T cycles. The
- * save plan is greedyWriting: no correct schedule has fewer. The first L places of the plan get each frame's cycle
- * (0 for a frame that save and keep leaves in the pool), later places keep their content. Refusals 1 to 9 and 17,
- * then 10 where `places` is below L. L is dockplan_parse's, and DOCKPLAN_MAX_FRAMES places are always enough. */
+/* Plans a ticket. The read plan is lazy prefetching: no way of driving a dock of its pool's buffers, 1 to 192, needs
+ * fewer than its T cycles. The save plan is greedyWriting: no correct schedule has fewer. The first L places of the
+ * plan get each frame's cycle (0 for a frame that save and keep leaves in the pool), later places keep their content.
+ * Refusals 1 to 9 and 17, then 10 where `places` is below L. L is dockplan_parse's, and DOCKPLAN_MAX_FRAMES places are always enough. */
 dockplan_plan_answer dockplan_plan(const uint8_t *ticket, size_t bytes, uint16_t *plan, size_t places);
 #define DOCKPLAN_STACK_PLAN 12560
 

@@ -1,6 +1,6 @@
 // The saver: each call on a line, with its answer and the record that comes back. The calls are the saver's own, or those of the library.
-// A new saver is written by its cards and its pool: a digit, C for 32, D for 33, P for 1,024, Q for 1,025, L for the largest number. Then come
-// calls: c is a closing cycle, a digit a save on that card, L a save on card 255, and m 4,095 saves on card 0 that are not shown.
+// A new saver is written by its cards and its pool: a digit, C for 32, D for 33, P for 192, Q for 193, R for 1,024, S for 1,025, L for the largest
+// number. Then come calls: c is a closing cycle, a digit a save on that card, L a save on card 255, and m 4,095 saves on card 0 that are not shown.
 ghost use Rattle.saver.specs.Calls.{Given};
 use crate::output;
 use crate::tables;

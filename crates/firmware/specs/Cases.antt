@@ -2,11 +2,12 @@
 -- answer in plain numbers.
 -- proofs/Cases.antt proves them by computing. So a number that is changed in a definition and in its code alike is refused here.
 -- Assumes nothing.
-use Prim.Native.Nat.{ℕ}
+use Prim.Native.Nat.{ℕ, _-_}
 use mathlib.Core.Bool.{Bool, true, false}
 use mathlib.Core.List.{List, [], _∷_, _++_}
 use lib.ListN.{replicate}
 use Rattle.counting.specs.declared.Position.{Position}
+use Rattle.header.specs.Limits.{maxPool}
 use Rattle.ticket.specs.Print.{headerText, ticketText}
 use Rattle.saver.specs.declared.Saver.{Saver}
 use Rattle.dock.specs.declared.Dock.{Dock}
@@ -71,7 +72,11 @@ saver cards pool taken made closing waiting card positions =
 
 -- one with no frame waiting
 abbrev idle : ℕ → ℕ → ℕ → ℕ → Bool → Saver
-idle cards pool taken made closing = saver cards pool taken made closing 0 (replicate 1024 0) (replicate 1024 (position 0))
+idle cards pool taken made closing = saver cards pool taken made closing 0 (replicate maxPool 0) (replicate maxPool (position 0))
+
+-- and one of two cards and a pool of 2 that has taken a frame, on this card
+abbrev withFirst : ℕ → Saver
+withFirst card = saver 2 2 1 0 false 1 (card ∷ replicate (maxPool - 1) 0) (replicate maxPool (position 0))
 
 -- "the record that comes with such a refusal has one card, a pool of 1, nothing taken or waiting, and closing begun"
 abbrev refusedSaver : Saver
@@ -119,9 +124,16 @@ cases =
     -- 4: cards not 1 to 32
     ∷ parseTicket (ticketOf 1 0 33 2 0 []) gives ticket 4 0 0 0 0 0
     ∷ newSaver 33 0 gives saved 4 0 nothing refusedSaver
-    -- 5: pool not 1 to 1,024
+    -- 5: pool not 1 to 192. The largest that passes, the next, 1,024, which passed before 2026-07, the next, and the largest that can be written
+    ∷ parseTicket (ticketOf 1 0 2 192 0 []) gives ticket 0 1 0 2 192 0
+    ∷ parseTicket (ticketOf 1 0 2 193 0 []) gives ticket 5 0 0 0 0 0
+    ∷ parseTicket (ticketOf 1 0 2 1024 0 []) gives ticket 5 0 0 0 0 0
     ∷ parseTicket (ticketOf 1 0 2 1025 0 []) gives ticket 5 0 0 0 0 0
-    ∷ newSaver 32 1025 gives saved 5 0 nothing refusedSaver
+    ∷ parseTicket (ticketOf 1 0 2 65535 0 []) gives ticket 5 0 0 0 0 0
+    ∷ newSaver 32 192 gives saved 0 0 nothing (idle 32 192 0 0 false)
+    ∷ newSaver 32 193 gives saved 5 0 nothing refusedSaver
+    ∷ newSaver 32 1024 gives saved 5 0 nothing refusedSaver
+    ∷ newSaver 32 65535 gives saved 5 0 nothing refusedSaver
     -- 6: frames over 4,096
     ∷ parseTicket (ticketOf 1 0 2 2 4097 []) gives ticket 6 0 0 0 0 0
     -- or those of a list for the hub
@@ -217,9 +229,9 @@ cases =
     ∷ gather (1 ∷ []) (replicate 9 0) (replicate 10 9) gives gathered 0 9 (0 ∷ 3 ∷ 6 ∷ 1 ∷ 4 ∷ 7 ∷ 2 ∷ 5 ∷ 0 ∷ 9 ∷ [])
     ∷ gather (0 ∷ 1 ∷ 2 ∷ 3 ∷ 4 ∷ 7 ∷ []) (5 ∷ 5 ∷ []) (9 ∷ 9 ∷ []) gives gathered 0 2 (4 ∷ 3 ∷ [])
     ∷ gather (7 ∷ []) [] (9 ∷ []) gives gathered 0 0 (9 ∷ [])
-    -- digits in either case: `01001f02eb0000`, `01001d01ca0000`; and g, which is none: `010002000g0000`
-    ∷ parseTicket (48 ∷ 49 ∷ 48 ∷ 48 ∷ 49 ∷ 102 ∷ 48 ∷ 50 ∷ 101 ∷ 98 ∷ 48 ∷ 48 ∷ 48 ∷ 48 ∷ 10 ∷ []) gives ticket 0 1 0 31 747 0
-    ∷ parseTicket (48 ∷ 49 ∷ 48 ∷ 48 ∷ 49 ∷ 100 ∷ 48 ∷ 49 ∷ 99 ∷ 97 ∷ 48 ∷ 48 ∷ 48 ∷ 48 ∷ 10 ∷ []) gives ticket 0 1 0 29 458 0
+    -- digits in either case: `01001f00be0000`, `01001d00ac0000`; and g, which is none: `010002000g0000`
+    ∷ parseTicket (48 ∷ 49 ∷ 48 ∷ 48 ∷ 49 ∷ 102 ∷ 48 ∷ 48 ∷ 98 ∷ 101 ∷ 48 ∷ 48 ∷ 48 ∷ 48 ∷ 10 ∷ []) gives ticket 0 1 0 31 190 0
+    ∷ parseTicket (48 ∷ 49 ∷ 48 ∷ 48 ∷ 49 ∷ 100 ∷ 48 ∷ 48 ∷ 97 ∷ 99 ∷ 48 ∷ 48 ∷ 48 ∷ 48 ∷ 10 ∷ []) gives ticket 0 1 0 29 172 0
     ∷ parseTicket (48 ∷ 49 ∷ 48 ∷ 48 ∷ 48 ∷ 50 ∷ 48 ∷ 48 ∷ 48 ∷ 103 ∷ 48 ∷ 48 ∷ 48 ∷ 48 ∷ 10 ∷ []) gives ticket 1 0 0 0 0 0
     -- the verdicts: 1 valid, 2 cycle 0, 3 a shared card, 4 too many in the pool
     ∷ checkPlan read001 (1 ∷ 2 ∷ 1 ∷ []) gives verdict 0 1 0 2 2
@@ -235,8 +247,8 @@ cases =
     ∷ runPlan read001 (0 ∷ 1 ∷ 2 ∷ []) gives run 0 false false 0 2 0 2
     -- a saver: new; a frame on card 1; and the closing cycle that writes it
     ∷ newSaver 2 2 gives saved 0 0 nothing (idle 2 2 0 0 false)
-    ∷ save (idle 2 2 0 0 false) 1 gives saved 0 0 nothing (saver 2 2 1 0 false 1 (1 ∷ replicate 1023 0) (replicate 1024 (position 0)))
-    ∷ close (saver 2 2 1 0 false 1 (1 ∷ replicate 1023 0) (replicate 1024 (position 0)))
+    ∷ save (idle 2 2 0 0 false) 1 gives saved 0 0 nothing (withFirst 1)
+    ∷ close (withFirst 1)
     gives saved 0 1 (65535 ∷ 0 ∷ replicate 30 65535) (idle 2 2 1 1 true)
     -- a dock: started; a read; a step against the rules, which is no refusal
     ∷ startDock read001 (7 ∷ 7 ∷ 7 ∷ 7 ∷ []) gives dock 0 (emptyDock 3 2) (0 ∷ 0 ∷ 1 ∷ 7 ∷ [])

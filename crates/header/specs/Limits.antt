@@ -17,9 +17,10 @@ modeSaveAndKeep = 2
 abbrev pub maxCards : ℕ
 maxCards = 32
 
--- "pool m 1 to 1,024". The most frames that can wait at once, which decides the size of a saver's record.
+-- Request 2026-07: "The largest dock in use has 192 buffers. That becomes the limit in tickets and in the saver". So many frames can wait at once,
+-- which decides the size of a saver's record.
 abbrev pub maxPool : ℕ
-maxPool = 1024
+maxPool = 192
 
 -- "frames L 0 to 4,096". A plan never has more cycles than frames, so cycles and positions fit in 16 bits.
 abbrev pub maxFrames : ℕ

@@ -8,7 +8,7 @@ pub const MODE_SAVE_AND_KEEP: u8 = 2;
 
 pub const MAX_CARDS: u8 = 32;
 
-pub const MAX_POOL: u16 = 1024;
+pub const MAX_POOL: u16 = 192;
 
 pub const MAX_FRAMES: u16 = 4096;
 

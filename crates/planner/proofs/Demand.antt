@@ -53,6 +53,7 @@ module _ (t before after : List ℕ) (r : Answer) (a : Answered (parse t) before
   pub demand-3 : Demand3 t (numbersOf r .refusal) (numbersOf r .cycles .0) after
   demand-3 =
       record {
+        dock-range = λ h cards e. accepted-fits t h cards e .pool;
         read-plan = λ h cards e mode room.
             let p = plan-read (h .mode) (h .pool) cards mode in
             let pool = accepted-fits t h cards e .pool .0 in

@@ -4,6 +4,7 @@
 -- Assumes nothing.
 use Prim.Native.Nat.{ℕ, _+_, _≤_, _<_}
 use mathlib.Core.Path.{_≡_, sym}
+use mathlib.Core.Bool.{false}
 use mathlib.Core.List.{List, map}
 use lib.ListN.{length, take}
 use Rattle.counting.specs.Frames.{cardOf}
@@ -13,7 +14,7 @@ use Rattle.schedule.proofs.Main.{save-fewest}
 use Rattle.header.specs.Limits.{maxCards, maxPool, maxFrames, Within}
 use Rattle.greedy_pool.specs.Log.{logOf, times, timesIn}
 use Rattle.saver.specs.declared.Saver.{Saver}
-use Rattle.saver.specs.Calls.{numbers, newOf, saveOf, closeOf, Given}
+use Rattle.saver.specs.Calls.{numbers, newSaver, noSaver, refusal, quiet, newOf, saveOf, closeOf, Given}
 use Rattle.saver.specs.Follows.{SaveFollows, CloseFollows, ShowsPlan}
 use Rattle.saver.specs.Runs.{Call, save, after, log, savedAndClosed}
 use Rattle.saver.proofs.Opening as opening
@@ -21,7 +22,19 @@ use Rattle.saver.proofs.Forming.{given-formed}
 use Rattle.saver.proofs.Saving as saving
 use Rattle.saver.proofs.Whole as whole
 
--- A new saver for 1 to 32 cards and a pool of 1 to 1,024.
+-- Request 2026-07: "192 passes and 193 gives 5, in tickets and in the saver". A new saver for 1 to 32 cards is not refused with a pool of 1 to 192,
+-- and by 5 with a larger one.
+pub new-pool-passes : (cards pool : ℕ) → Within maxCards cards → Within 192 pool → newOf cards pool ≡ quiet (newSaver cards pool false)
+new-pool-passes = opening.new-is
+
+pub new-pool-over : (cards pool : ℕ) → Within maxCards cards → 192 < pool → newOf cards pool ≡ refusal 5 noSaver
+new-pool-over = opening.new-over
+
+-- The two tables of a record have 192 places, one for each frame that can wait.
+pub record-places : {s : Saver} → Given s → (length (s .card) ≡ 192) × (length (s .position) ≡ 192)
+record-places g = (given-formed g .cards-long, given-formed g .positions-long)
+
+-- A new saver for 1 to 32 cards and a pool of 1 to 192.
 module _ (cards m : ℕ) (of-cards : Within maxCards cards) (of-pool : Within maxPool m) where
   abbrev new : Saver
   new = newOf cards m .saver

@@ -1,4 +1,5 @@
--- Demand 3, as a statement about a plan: its list of cycles and its T. This is the sentence of the data sheet.
+-- Demand 3, as a statement about a plan: its list of cycles and its T. This is the sentence of the data sheet, which speaks of docks of 1 to 192
+-- buffers (crates/planner/specs/Demand3.antt says it of them); here the pool m is any number.
 -- `save-demand` and `read-demand` of proofs/Main.antt prove it of greedyWriting and of lazy prefetching.
 -- Assumes nothing.
 use Prim.Native.Nat.{ℕ, _≤_}

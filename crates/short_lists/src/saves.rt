@@ -5,6 +5,7 @@ use crate::lists::at;
 use crate::lists::with;
 use crate::report;
 use crate::tickets::Case;
+use header::limits;
 use saver::Answer;
 use saver::Saver;
 
@@ -15,7 +16,7 @@ fn note(cycles: u64, c: Case, a: Answer) -> u64 {
     let written = a.written;
     let made = a.cycle;
     let mut card: usize = 0;
-    while card < 32 {
+    while card < limits::CARDS {
         let p = written[card];
         let i = p.0 as u64;
         if i != 65535 {
@@ -33,7 +34,7 @@ fn note(cycles: u64, c: Case, a: Answer) -> u64 {
 fn same_tables(a: Saver, b: Saver) -> bool {
     let mut same = true;
     let mut i: usize = 0;
-    while i < 1024 {
+    while i < limits::POOL {
         if (a.card[i] != b.card[i]) | (a.position[i].0 != b.position[i].0) {
             same = false;
         }

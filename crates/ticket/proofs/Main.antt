@@ -5,19 +5,20 @@ use Prim.Native.Nat.{ℕ, _+_, _*_, _≤_, _<_}
 use mathlib.Core.Bool.{cond}
 use mathlib.Core.Path.{_≡_, refl, sym, ap, _∙_}
 use mathlib.Core.List.{List, [], _++_}
-use mathlib.Core.Logic.{_⊎_, inl, inr}
+use mathlib.Core.Logic.{_⊎_, inl, inr, ⊎-elim}
+use native.Mathlib.Omega.{arith}
 use lib.Dec.{ltb}
 use lib.ListN.{length, take, drop}
 use borrow.Author.Tests.{lt-ltb}
 use Rattle.counting.specs.Count.{written}
 use Rattle.counting.specs.Frames.{cardOf}
-use Rattle.text.specs.Text.{number, isLine}
+use Rattle.text.specs.Text.{number, isLine, Line}
 use Rattle.text.specs.UpperCase.{upperCase}
-use Rattle.header.specs.Editions.{edition1, edition2, lineBytes}
-use Rattle.header.specs.Heading.{headerBytes}
-use Rattle.header.specs.Limits.{maxFrames}
+use Rattle.header.specs.Editions.{edition1, edition2, Known, lineBytes}
+use Rattle.header.specs.Heading.{headerDigits, headerBytes, editionOf}
+use Rattle.header.specs.Limits.{Within, modeSaveAndKeep, maxCards, maxFrames}
 use Rattle.frame_lines.specs.Lines.{cardAt, secondAt, lineFault}
-use Rattle.ticket.specs.Grounds.{TicketRefusal, Says, Fits}
+use Rattle.ticket.specs.Grounds.{TicketRefusal, Says, row5, Fits, modeOf, cardsOf, poolOf}
 use Rattle.ticket.specs.Print.{lineText, ticketText}
 use Rattle.ticket.specs.Seconds.{secondsOf, secondOf, SecondsFit}
 use Rattle.ticket.specs.Ticket.{Parsed, accepted, refused, parse, readInto, longestTicket, lineIn, lineOf}
@@ -55,6 +56,16 @@ accepted-or-refused t =
 pub front-settles : (n : ℕ) (t : List ℕ) → longestTicket < n → (parse (take n t) ≡ parse t) × (secondsOf (take n t) ≡ secondsOf t)
 front-settles n t long = (front.settled n t long, front.seconds-settled n t long)
 
+-- Request 2026-07: "192 passes and 193 gives 5": a pool figure of 1 to 192 is never refused by 5, whatever else the text has.
+pub pool-passes : (t : List ℕ) → Within 192 (poolOf t) → parse t ≡ refused 5 → ⊥
+pool-passes t w e = ⊎-elim (λ l. omega (arith, l, w .0)) (λ l. omega (arith, l, w .1)) (reader.pool-outside t e)
+
+-- "Filed tickets asking for more get 5 too": every text without a ground of 1 to 4, of either edition and whatever follows its pool figure.
+pub pool-over :
+    (t : List ℕ) → Line t 0 headerDigits → Known (editionOf t) → modeOf t ≤ modeSaveAndKeep → Within maxCards (cardsOf t)
+    → 192 < poolOf t → parse t ≡ refused 5
+pool-over t l e m c over = parse-only t (refused 5) (row5 l e m c (inr over))
+
 -- "Edition 01 is read as before": its lines are refused by 7 and 8 alone, and have 3 bytes.
 pub edition-1-lines :
     (s : List ℕ) (cards i : ℕ)
@@ -70,6 +81,10 @@ module _ (t : List ℕ) (h : Header) (cards : List ℕ) (e : parse t ≡ accepte
   -- The values of an accepted ticket are within the limits.
   pub accepted-fits : Fits h cards
   accepted-fits = accepting.fits t h cards e
+
+  -- Its pool is one of 1 to 192 buffers.
+  pub accepted-pool : (1 ≤ h .pool) × (h .pool ≤ 192)
+  accepted-pool = accepted-fits .pool
 
   -- It has no more frames than the limit.
   pub accepted-few : length cards ≤ maxFrames

@@ -13,7 +13,7 @@ use Rattle.text.specs.Text.{Line}
 use Rattle.text.proofs.Lines.{line-true, line-false, line-or-not}
 use Rattle.header.specs.Editions.{edition2, Known, lineDigits, lineBytes}
 use Rattle.header.specs.Heading.{headerDigits, headerOf, editionOf, heading}
-use Rattle.header.specs.Limits.{modeSaveAndKeep, maxCards, maxPool, maxFrames, Within}
+use Rattle.header.specs.Limits.{modeSaveAndKeep, maxCards, maxPool, maxFrames, Within, Outside}
 use Rattle.header.proofs.Judged.{range, judge-3, judge-4, judge-5, judge-6, heading-1, heading-2, heading-passes}
 use Rattle.header.proofs.Widths.{known-or-not, no-second}
 use Rattle.ticket.specs.Grounds.{TicketRefusal, Says, row1, row2, row3, row4, row5, row6, row7, row8, row17, row9, none}
@@ -203,3 +203,23 @@ module _ (t : List ℕ) where
 
   pub refusal-above : (k : ℕ) → parse t ≡ refused k → 1 ≤ k
   refusal-above k e = ⊎-elim (λ w. w .0) (λ q. omega (arith, q .0)) (refusal-number k e)
+
+  -- 5 is given for a pool out of range alone
+  not-five : (k : ℕ) → (k ≡ 5 → ⊥) → refused k ≡ refused 5 → Outside maxPool (poolOf t)
+  not-five k n e = let q : k ≡ 5 = cc in absurd (n q)
+
+  five : (a : Parsed) → Says t a → a ≡ refused 5 → Outside maxPool (poolOf t)
+  five _ (row5 _ _ _ _ o) e = o
+  five _ (row1 _) e = not-five 1 (λ q. omega (arith, q)) e
+  five _ (row2 _ _) e = not-five 2 (λ q. omega (arith, q)) e
+  five _ (row3 _ _ _) e = not-five 3 (λ q. omega (arith, q)) e
+  five _ (row4 _ _ _ _) e = not-five 4 (λ q. omega (arith, q)) e
+  five _ (row6 _ _ _ _ _ _) e = not-five 6 (λ q. omega (arith, q)) e
+  five _ (row7 _ _ _ _ _) e = not-five 7 (λ q. omega (arith, q)) e
+  five _ (row8 _ _ _ _ _ _) e = not-five 8 (λ q. omega (arith, q)) e
+  five _ (row17 _ _ _ _ _ _ _) e = not-five 17 (λ q. omega (arith, q)) e
+  five _ (row9 _ _ _) e = not-five 9 (λ q. omega (arith, q)) e
+  five _ (none _ _ _) e = let z : _≡_ {A = ℕ} 0 1 = cc in absurd (omega arith)
+
+  pub pool-outside : parse t ≡ refused 5 → Outside maxPool (poolOf t)
+  pool-outside e = five (parse t) says e

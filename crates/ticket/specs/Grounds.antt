@@ -78,7 +78,7 @@ module _ (t : List ℕ) where
     row3 : Line t 0 headerDigits → Known (editionOf t) → modeSaveAndKeep < modeOf → Says (refused 3)
     -- "cards not 1 to 32"
     row4 : Line t 0 headerDigits → Known (editionOf t) → modeOf ≤ modeSaveAndKeep → Outside maxCards cardsOf → Says (refused 4)
-    -- "pool not 1 to 1,024"
+    -- "pool not 1 to" 192, since request 2026-07
     row5 :
         Line t 0 headerDigits → Known (editionOf t) → modeOf ≤ modeSaveAndKeep → Within maxCards cardsOf → Outside maxPool poolOf
         → Says (refused 5)

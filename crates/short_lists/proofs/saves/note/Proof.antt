@@ -2,14 +2,15 @@
 -- Assumes nothing.
 use Prim.Native.Nat.{_≤_, _-_}
 use borrow.Author.Needs.{needs}
+use Rattle.header.specs.Limits.{maxCards}
 use Rattle.short_lists.proofs.saves.note.Statement.{statement}
 use Rattle.short_lists.proofs.saves.note.Tie as tie
 
 abbrev Inv-loop : tie.InvT-loop
-Inv-loop cycles c noted₀ written made card₀ noted card = card ≤ 32
+Inv-loop cycles c noted₀ written made card₀ noted card = card ≤ maxCards
 
 abbrev μ-loop : tie.MeasureT-loop
-μ-loop cycles c noted₀ written made card₀ noted card = 32 - card
+μ-loop cycles c noted₀ written made card₀ noted card = maxCards - card
 
 loop-holds : tie.Need-loop-holds Inv-loop μ-loop
 loop-holds c = search needs

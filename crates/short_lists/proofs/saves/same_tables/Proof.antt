@@ -2,14 +2,15 @@
 -- Assumes nothing.
 use Prim.Native.Nat.{_≤_, _-_}
 use borrow.Author.Needs.{needs}
+use Rattle.header.specs.Limits.{maxPool}
 use Rattle.short_lists.proofs.saves.same_tables.Statement.{statement}
 use Rattle.short_lists.proofs.saves.same_tables.Tie as tie
 
 abbrev Inv-loop : tie.InvT-loop
-Inv-loop a b same₀ i₀ same i = i ≤ 1024
+Inv-loop a b same₀ i₀ same i = i ≤ maxPool
 
 abbrev μ-loop : tie.MeasureT-loop
-μ-loop a b same₀ i₀ same i = 1024 - i
+μ-loop a b same₀ i₀ same i = maxPool - i
 
 loop-holds : tie.Need-loop-holds Inv-loop μ-loop
 loop-holds c = search needs
