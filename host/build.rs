@@ -8,6 +8,15 @@ fn run(command: &mut Command) {
     assert!(status.success(), "{command:?}: {status}");
 }
 
+/// Compiles the C files that the library is measured against, with the compiler's name before that of each function.
+fn compile_plain(compiler: &str, out: &Path) {
+    let prefix = format!("-DPLAIN(name)={compiler}_##name");
+    for file in ["plain", "saver"] {
+        let source = PathBuf::from(format!("c/{file}.c"));
+        compile(compiler, &source, &format!("{file}_{compiler}"), &[&prefix], out);
+    }
+}
+
 /// Compiles a C file into an archive of its own, so that nothing is inlined across the boundary.
 fn compile(compiler: &str, source: &Path, name: &str, flags: &[&str], out: &Path) {
     let object = out.join(format!("{name}.o"));
@@ -40,22 +49,10 @@ fn main() {
     println!("cargo:rustc-link-search=native={}", out.display());
     println!("cargo:rerun-if-changed=c");
     println!("cargo:rerun-if-changed=../include");
-    compile(
-        "gcc",
-        Path::new("c/plain.c"),
-        "plain_gcc",
-        &["-DPLAIN(name)=gcc_##name"],
-        &out,
-    );
+    compile_plain("gcc", &out);
     println!("cargo:rustc-check-cfg=cfg(clang)");
     if Command::new("clang").arg("--version").output().is_ok() {
-        compile(
-            "clang",
-            Path::new("c/plain.c"),
-            "plain_clang",
-            &["-DPLAIN(name)=clang_##name"],
-            &out,
-        );
+        compile_plain("clang", &out);
         println!("cargo:rustc-cfg=clang");
     }
     compile("gcc", Path::new("c/stack.c"), "stack", &[], &out);

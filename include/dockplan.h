@@ -285,17 +285,17 @@ typedef struct {
 /* A new saver. Refusals 4, then 5; the record that comes with them has one card, a pool of 1 and closing begun, so
  * it takes no frame. */
 dockplan_saver_answer dockplan_saver_new(uint8_t cards, uint16_t pool);
-#define DOCKPLAN_STACK_SAVER_NEW 3184
+#define DOCKPLAN_STACK_SAVER_NEW 688
 
 /* Saves the next frame of the list, on this card; if the pool is full, one cycle is made first. Refusals 15, 8, 13 in
  * this order. */
 dockplan_saver_answer dockplan_saver_save(dockplan_saver saver, uint8_t card);
-#define DOCKPLAN_STACK_SAVER_SAVE 9392
+#define DOCKPLAN_STACK_SAVER_SAVE 1904
 
 /* Makes one closing cycle; ask until it is refused by 14, when the pool is empty. The first one that is not refused
  * begins closing: no frame is taken from then on. */
 dockplan_saver_answer dockplan_saver_close(dockplan_saver saver);
-#define DOCKPLAN_STACK_SAVER_CLOSE 8336
+#define DOCKPLAN_STACK_SAVER_CLOSE 1680
 
 #ifdef __cplusplus
 }

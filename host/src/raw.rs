@@ -2,7 +2,10 @@
 //! The default of an answer is all zeros, as beside a refusal.
 
 /// The version of the header that this file repeats.
-pub const VERSION: u32 = 106;
+pub const VERSION: u32 = 107;
+
+/// The largest pool of a ticket and of a saver, whose record has so many places in each of its tables.
+pub const MAX_POOL: usize = 192;
 
 /// A cycle, counted from 1.
 #[repr(C)]
@@ -97,8 +100,8 @@ pub struct Saver {
     pub made: Cycle,
     pub waiting: u16,
     pub closing: bool,
-    pub card: [u8; 1024],
-    pub position: [Position; 1024],
+    pub card: [u8; MAX_POOL],
+    pub position: [Position; MAX_POOL],
 }
 
 /// The entry of a card that writes nothing.

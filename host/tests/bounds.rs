@@ -1,7 +1,8 @@
 //! No call reads or writes beside the memory lent to it. Each lent piece ends right before a page that nobody may
 //! touch, or starts right behind one, so that a step outside ends the test program.
 
-use dockplan::{reference, Position, Refusal};
+use dockplan::reference::{self, MAX_POOL};
+use dockplan::{Position, Refusal};
 use std::ffi::c_void;
 use std::ptr::null_mut;
 
@@ -98,10 +99,11 @@ fn longest_tickets() {
     let mut memory = Memory::new();
     let rising: Vec<u16> = (1..=4096).collect();
     let mut falling = rising.clone();
-    falling.chunks_mut(1000).for_each(<[u16]>::reverse);
+    falling.chunks_mut(MAX_POOL).for_each(<[u16]>::reverse);
     let larger: Vec<u16> = falling.iter().map(|cycle| cycle * 15).collect();
     let list: Vec<u8> = (0..4096).map(|position| (position % 32) as u8).collect();
-    for ticket in tickets("2004001000", &list) {
+    for ticket in tickets(&format!("20{MAX_POOL:04X}1000"), &list) {
+        assert_eq!(refusal(dockplan::parse(ticket.as_bytes())), 0);
         for cycles in [&rising, &falling, &larger] {
             memory.call_everything(ticket.as_bytes(), cycles);
         }
@@ -130,7 +132,7 @@ fn longest_tickets_to_join() {
     let mut memory = Memory::new();
     let ticket = |frames: u32, second: fn(u32) -> u32| {
         let lines = (0..frames).map(|position| format!("1F{:08X}\n", second(position)));
-        format!("0200200400{frames:04X}\n{}", lines.collect::<String>())
+        format!("020020{MAX_POOL:04X}{frames:04X}\n{}", lines.collect::<String>())
     };
     let even = ticket(2048, |position| 2 * position);
     let odd = ticket(2048, |position| 2 * position + 1);

@@ -1,6 +1,8 @@
 //! The cases of document 01 and worked examples of the requests in document 02, written down from the documents and run
 //! through the safe wrappers. Where a case has no T, it is the plan's largest cycle number, as document 01 defines it.
 
+mod pools;
+
 use dockplan::{Cycle, Position, Refusal, Saver, Verdict};
 
 const READ: u8 = 0;
@@ -56,7 +58,7 @@ const PLANS: [PlanCase; 12] = [
     PlanCase { mode: READ, m: 1, list: &[], plan: &[], cycles: 0 },
     PlanCase { mode: SAVE, m: 1, list: &[], plan: &[], cycles: 0 },
     PlanCase { mode: SAVE_AND_KEEP, m: 1, list: &[], plan: &[], cycles: 0 },
-    PlanCase { mode: READ, m: 1024, list: &[], plan: &[], cycles: 0 },
+    PlanCase { mode: READ, m: 192, list: &[], plan: &[], cycles: 0 },
 ];
 
 #[test]
@@ -141,12 +143,18 @@ fn agrees(verdict: Verdict, expected: &Expected) -> bool {
     }
 }
 
-/// "Pool 0 gives 5, pool 1 and 1,024 pass, 1,025 gives 5. Cards 32 pass, 33 give 4. Frames 4,096 pass, 4,097 give 6. An
-/// empty ticket gives 1." Here 0 is a ticket that passes.
+/// "Pool 0 gives 5, pool 1 [...] pass [...]. Cards 32 pass, 33 give 4. Frames 4,096 pass, 4,097 give 6. An empty ticket gives
+/// 1." Of larger pools, "192 passes and 193 gives 5". Here 0 is a ticket that passes.
 #[test]
 fn limits() {
-    for (pool, number) in [(0, 5), (1, 0), (1024, 0), (1025, 5)] {
-        assert_eq!(refusal(&ticket(READ, 2, pool, &[0, 0, 1])), number, "pool {pool}");
+    for (numbers, number) in [(&pools::PASS[..], 0), (&pools::GIVE_5, 5)] {
+        for &pool in numbers {
+            for mode in [READ, SAVE, SAVE_AND_KEEP] {
+                for ticket in tickets_of_list(mode, pool, &[0, 0, 1]) {
+                    assert_eq!(refusal(&ticket), number, "{}", ticket.escape_ascii());
+                }
+            }
+        }
     }
     for (cards, number) in [(32, 0), (33, 4)] {
         assert_eq!(refusal(&ticket(READ, cards, 2, &[0, 0, 1])), number, "{cards} cards");
@@ -161,10 +169,41 @@ fn limits() {
     assert_eq!(refusal(b""), 1);
 }
 
+/// "That becomes the limit in tickets and in the saver." Cards come first: "a new saver gives 4, then 5".
+#[test]
+fn limits_of_the_saver() {
+    let refusal = |cards, pool: usize| Saver::new(cards, pool as u16).err().map_or(0, |refusal| refusal.0);
+    for pool in pools::PASS {
+        for (cards, number) in [(0, 4), (1, 0), (2, 0), (32, 0), (33, 4), (255, 4)] {
+            assert_eq!(refusal(cards, pool), number, "{cards} cards, pool {pool}");
+        }
+    }
+    for pool in pools::GIVE_5 {
+        for (cards, number) in [(0, 4), (1, 5), (2, 5), (32, 5), (33, 4), (255, 4)] {
+            assert_eq!(refusal(cards, pool), number, "{cards} cards, pool {pool}");
+        }
+    }
+}
+
+/// The largest pool takes 192 frames before it makes a cycle, and then one for each further frame of the same card.
+#[test]
+fn saver_with_the_largest_pool() {
+    let mut saver = Saver::new(1, 192).unwrap();
+    for position in 0..192 {
+        let saved = saver.save(0).unwrap();
+        assert_eq!((saved.cycle, saver.waiting()), (None, position + 1));
+    }
+    for position in 0..1000 {
+        let saved = saver.save(0).unwrap();
+        assert_eq!((saved.cycle, saver.waiting()), (Some(Cycle(position + 1)), 192));
+        assert_eq!(saved.written[0], Some(Position(position)));
+    }
+}
+
 /// The longest ticket has edition 02 and 4,096 frames: 15 + 11 × 4,096 bytes. One byte more follows the last line.
 #[test]
 fn longest_ticket() {
-    let mut ticket = ticket_with_seconds(READ, 32, 1024, &[(31, u32::MAX); 4096]);
+    let mut ticket = ticket_with_seconds(READ, 32, 192, &[(31, u32::MAX); 4096]);
     assert_eq!(ticket.len(), 45_071);
     assert_eq!(refusal(&ticket), 0);
     let last = dockplan::line(&ticket, Position(4095));

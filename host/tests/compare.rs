@@ -7,9 +7,11 @@ mod hubs;
 mod judged;
 mod library;
 mod pairs;
+mod pools;
 mod same;
 mod tally;
 
+use dockplan::reference::MAX_POOL;
 use generate::{plans, tickets, Random};
 use std::thread;
 use tally::Tally;
@@ -21,9 +23,10 @@ const TICKETS: u64 = 120_000 / PARTS;
 const FOR_CHECKER: u64 = 6_000 / PARTS;
 const LONG_FOR_CHECKER: u64 = 12 / PARTS;
 const PLANS_FOR_CHECKER: u64 = 10;
-/// Read plans that are tried with pools around their peak: short ones, and ones of as many frames as there are buffers.
+/// Read plans that are tried with pools around their peak: short ones, and ones of as many frames as a pool can have buffers
+/// and more.
 const FOR_POOLS: u64 = 20_000 / PARTS;
-const LONG_FOR_POOLS: u64 = 200 / PARTS;
+const LONG_FOR_POOLS: u64 = 6_000 / PARTS;
 const SAVER_SEQUENCES: u64 = 3_000 / PARTS;
 const FULL_SAVERS: u64 = 20 / PARTS;
 const PAIRS: u64 = 80_000 / PARTS;
@@ -73,7 +76,9 @@ fn compare_part(seed: u64) -> Tally {
         same::peaks::compare_pools(&mut random, frames, &mut tally);
     }
     for _ in 0..LONG_FOR_POOLS {
-        same::peaks::compare_pools(&mut random, 1024, &mut tally);
+        let any = random.between(MAX_POOL + 1, 1_000);
+        let frames = random.pick(&[MAX_POOL, MAX_POOL + 1, any, any]);
+        same::peaks::compare_pools(&mut random, frames, &mut tally);
     }
     for _ in 0..HUBS {
         let given = hubs::any(&mut random);

@@ -2,6 +2,7 @@
 //! by mending the ticket there; and a plan is called valid exactly where the library says so.
 
 mod generate;
+mod pools;
 
 use dockplan::explain::place::{self, Place};
 use dockplan::explain::{explain, File};

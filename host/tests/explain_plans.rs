@@ -300,3 +300,16 @@ fn lines_of_refusals() {
         &["a.plan: does not say the refusal; FF05 is right"],
     );
 }
+
+/// A ticket that was filed with a pool of 1,024: the plan that was made for it then, and the line of its refusal now.
+#[test]
+fn beside_a_filed_ticket() {
+    let filed = "01000204000003\n00\n00\n01\n";
+    plan_says(
+        filed,
+        "0002\n0000000001\n0001000002\n0002010002\n",
+        false,
+        &["a.plan: does not say the refusal; FF05 is right"],
+    );
+    plan_says(filed, "FF05\n", false, &["a.plan: says the same refusal, FF05"]);
+}

@@ -116,9 +116,9 @@ fn few_frames() {
         ],
     );
     accepted(
-        "01022004000001\n1F\n",
+        "01022000C00001\n1F\n",
         &[
-            "  It is of edition 01 and asks for a save and keep plan of 1 frame on 32 cards, with a pool of 1024 buffers.",
+            "  It is of edition 01 and asks for a save and keep plan of 1 frame on 32 cards, with a pool of 192 buffers.",
             "  Frames on card 31: 1.",
             "  No frames on the other 31 cards.",
             "  The plan has 0 cycles. 1 frame stays in the pool, with cycle 0.",
@@ -135,12 +135,13 @@ fn few_frames() {
     );
 }
 
-/// 32 cards in few lines: neighbours with the same count are said together, and long lists are broken. The pool is so
-/// large that the plan has as many cycles as the fullest card has frames.
+/// 32 cards in few lines: neighbours with the same count are said together, and long lists are broken. The plan has as many
+/// cycles as the fullest card has frames: in the first list each cycle reads one frame of each card, and in the second the
+/// pool has room for all 160 frames.
 #[test]
 fn many_cards() {
     let ticket = |list: &[usize]| {
-        let mut text = format!("0100200400{:04X}\n", list.len());
+        let mut text = format!("01002000C0{:04X}\n", list.len());
         list.iter().for_each(|card| text += &format!("{card:02X}\n"));
         text
     };
@@ -148,23 +149,22 @@ fn many_cards() {
     accepted(
         ticket(&round_robin),
         &[
-            "  It is of edition 01 and asks for a read plan of 4096 frames on 32 cards, with a pool of 1024 buffers.",
+            "  It is of edition 01 and asks for a read plan of 4096 frames on 32 cards, with a pool of 192 buffers.",
             "  Frames on cards 0 to 31: 128 each.",
             "  The plan has 128 cycles.",
         ],
     );
-    let card_c_has_c: Vec<usize> = (0..32).flat_map(|card| vec![card; card]).collect();
+    let card_c_has_c_mod_12: Vec<usize> = (0..32).flat_map(|card| vec![card; card % 12]).collect();
     accepted(
-        ticket(&card_c_has_c),
+        ticket(&card_c_has_c_mod_12),
         &[
-            "  It is of edition 01 and asks for a read plan of 496 frames on 32 cards, with a pool of 1024 buffers.",
+            "  It is of edition 01 and asks for a read plan of 160 frames on 32 cards, with a pool of 192 buffers.",
             "  Frames on card 1: 1, card 2: 2, card 3: 3, card 4: 4, card 5: 5, card 6: 6, card 7: 7, card 8: 8,",
-            "    card 9: 9, card 10: 10, card 11: 11, card 12: 12, card 13: 13, card 14: 14, card 15: 15,",
-            "    card 16: 16, card 17: 17, card 18: 18, card 19: 19, card 20: 20, card 21: 21, card 22: 22,",
-            "    card 23: 23, card 24: 24, card 25: 25, card 26: 26, card 27: 27, card 28: 28, card 29: 29,",
-            "    card 30: 30, card 31: 31.",
-            "  No frames on the other card.",
-            "  The plan has 31 cycles.",
+            "    card 9: 9, card 10: 10, card 11: 11, card 13: 1, card 14: 2, card 15: 3, card 16: 4, card 17: 5,",
+            "    card 18: 6, card 19: 7, card 20: 8, card 21: 9, card 22: 10, card 23: 11, card 25: 1, card 26: 2,",
+            "    card 27: 3, card 28: 4, card 29: 5, card 30: 6, card 31: 7.",
+            "  No frames on the other 3 cards.",
+            "  The plan has 11 cycles.",
         ],
     );
 }
@@ -320,16 +320,7 @@ fn refusals_4_to_6() {
             "  Hint:     Numbers are hexadecimal. If 32 was meant as a decimal number, write 20.",
         ],
     );
-    refused(
-        "01000200000000\n",
-        &[
-            "a.ticket: refused by 5 (FF05)",
-            "  The pool is not 1 to 1024.",
-            "  Place:    line 1, bytes 7 to 10; offsets 6 to 9 from the start of the file",
-            "  Found:    0000 hex, which is 0",
-            "  Expected: the pool: 0001 to 0400 hex, which is 1 to 1024",
-        ],
-    );
+    refused_by_5("01000200000000\n", "0000 hex, which is 0", &[]);
     refused(
         "01000200021001\n",
         &[
@@ -341,6 +332,50 @@ fn refusals_4_to_6() {
             "  Hint:     Numbers are hexadecimal. If 1001 was meant as a decimal number, write 03E9.",
         ],
     );
+}
+
+fn refused_by_5(ticket: &str, found: &str, hints: &[&str]) {
+    let found = format!("  Found:    {found}");
+    let lines = [
+        "a.ticket: refused by 5 (FF05)",
+        "  The pool is not 1 to 192.",
+        "  Place:    line 1, bytes 7 to 10; offsets 6 to 9 from the start of the file",
+        &found,
+        "  Expected: the pool: 0001 to 00C0 hex, which is 1 to 192",
+    ];
+    refused(ticket, &[&lines, hints].concat());
+}
+
+/// Pools over the limit, which filed tickets of every mode and edition may have. Some look like decimal numbers too.
+#[test]
+fn pools_over_the_limit() {
+    let filed = "  Hint:     Docks have at most 192 buffers; tickets filed earlier may ask for more.";
+    refused_by_5("01000200C10003\n00\n00\n01\n", "00C1 hex, which is 193", &[filed]);
+    refused_by_5("01010200c20001\n00\n", "00c2 hex, which is 194", &[filed]);
+    refused_by_5("01020203FF0000\n", "03FF hex, which is 1023", &[filed]);
+    refused_by_5("02000204000001\n0000000E10\n", "0400 hex, which is 1024", &[filed]);
+    refused_by_5("02020204010000\n", "0401 hex, which is 1025", &[filed]);
+    refused_by_5("020102FFFF0000\n", "FFFF hex, which is 65535", &[filed]);
+    let decimal = "  Hint:     Numbers are hexadecimal. If 0192 was meant as a decimal number, write 00C0.";
+    refused_by_5("01000201920000\n", "0192 hex, which is 402", &[decimal, filed]);
+    refused_by_5("01000201930000\n", "0193 hex, which is 403", &[filed]);
+    let decimal = "  Hint:     Numbers are hexadecimal. If 0100 was meant as a decimal number, write 0064.";
+    refused_by_5("01000201000000\n", "0100 hex, which is 256", &[decimal, filed]);
+    refused_by_5("01000210240000\n", "1024 hex, which is 4132", &[filed]);
+}
+
+/// The largest pool that passes.
+#[test]
+fn pool_at_the_limit() {
+    for ticket in ["01000100C00000\n", "01000100c00000\n"] {
+        accepted(
+            ticket,
+            &[
+                "  It is of edition 01 and asks for a read plan of 0 frames on 1 card, with a pool of 192 buffers.",
+                "  The plan has 0 cycles.",
+            ],
+        );
+    }
 }
 
 const LINE_IS_WRONG: [&str; 2] = [

@@ -2,12 +2,12 @@
 //! take exactly the load of the fullest card, and 8 × T is at most L + 7 × S". Here on lists that are written down: those that
 //! need the whole pool, those that need most cycles, and all of 16 frames of two cameras.
 
+use dockplan::reference::MAX_POOL;
 use dockplan::{counts, hub, plan};
 use std::thread;
 
 const READ: u8 = 0;
 const SAVE: u8 = 1;
-const LARGEST_POOL: usize = 1024;
 
 /// The frames of a hub's list on their cards.
 struct Gathered {
@@ -57,7 +57,7 @@ impl Gathered {
         let (s, l, t) = (self.s, self.cards.len(), self.fullest());
         assert!(8 * t <= l + 7 * s, "{s} cameras, {l} frames, {t} on one card");
         for mode in [READ, SAVE] {
-            for pool in [7 * s + 1, 7 * s + 2, 192, LARGEST_POOL] {
+            for pool in [7 * s + 1, 7 * s + 2, 100, MAX_POOL] {
                 assert_eq!(
                     self.cycles(mode, pool),
                     t,

@@ -1,6 +1,8 @@
 //! Request 2026-04, "one showing from two tickets", on pairs that are written down by hand, through the safe wrapper: the
 //! order of the frames, sizes and buffers, the grounds for 18, 19 and 10 and their order, cuts, and every wrong byte.
 
+mod pools;
+
 use dockplan::{parse, reference, Refusal};
 
 /// Places for the longest ticket: 15 + 11 × 4,096 bytes.
@@ -13,12 +15,12 @@ type Frame = (u8, u32);
 
 /// A read ticket of edition 02 for 6 cards and a pool of 10.
 fn ticket(frames: &[Frame]) -> Vec<u8> {
-    with_header("02000600", frames)
+    with_header("020006000A", frames)
 }
 
-/// A ticket whose header begins so. The pool's last digits, 0A, the number of frames and the lines of edition 02 follow.
+/// A ticket whose header begins so, up to the pool. The number of frames and the lines of edition 02 follow.
 fn with_header(header: &str, frames: &[Frame]) -> Vec<u8> {
-    let mut text = format!("{header}0A{:04X}\n", frames.len());
+    let mut text = format!("{header}{:04X}\n", frames.len());
     for (card, second) in frames {
         text += &format!("{card:02X}{second:08X}\n");
     }
@@ -124,7 +126,7 @@ fn all_short_pairs() {
             let second: Vec<Frame> = (4..).zip(other.iter().copied()).collect();
             let mut all = [first.clone(), second.clone()].concat();
             all.sort_by_key(|&(card, second)| (second, card));
-            let [first, second, joined] = [first, second, all].map(|frames| with_header("02000800", &frames));
+            let [first, second, joined] = [first, second, all].map(|frames| with_header("020008000A", &frames));
             assert_eq!(join(&first, &second), Ok(joined), "seconds {one:?} and {other:?}");
         }
     }
@@ -194,28 +196,52 @@ fn buffers() {
 
 // ---- The grounds for turning a pair down ----
 
-/// Each cause of 18, for either ticket: edition 01, the other modes, other cards, another pool in any digit.
+/// Each cause of 18, for either ticket: edition 01, the other modes, other cards, another pool in either of its last digits.
+/// The first two are 00 in every pool.
 #[test]
 fn different_tickets() {
-    let good = with_header("02000600", &[]);
+    let good = with_header("020006000A", &[]);
     assert_eq!(join(&good, &good), Ok(good.clone()));
     for header in [
-        "01000600", "02010600", "02020600", "02000500", "02000700", "02002000", "02000601", "02000602", "02000603",
+        "010006000A",
+        "020106000A",
+        "020206000A",
+        "020005000A",
+        "020007000A",
+        "020020000A",
+        "0200060009",
+        "020006000B",
+        "020006001A",
+        "020006009A",
+        "0200060001",
+        "02000600C0",
     ] {
         let other = with_header(header, &[]);
         assert_eq!(parse(&other).err(), None, "{header}");
         assert_eq!(join(&good, &other), Err(18), "{header} second");
         assert_eq!(join(&other, &good), Err(18), "{header} first");
     }
-    for pool in ["0009", "000B", "001A", "010A", "0001", "0400"] {
-        let other = format!("020006{pool}0000\n").into_bytes();
-        assert_eq!(parse(&other).err(), None, "pool {pool}");
-        assert_eq!(join(&good, &other), Err(18), "pool {pool} second");
-        assert_eq!(join(&other, &good), Err(18), "pool {pool} first");
-    }
-    for header in ["01000600", "02010600", "02020600", "01010600", "01020600"] {
+    for header in ["010006000A", "020106000A", "020206000A", "010106000A", "010206000A"] {
         let both = with_header(header, &[]);
         assert_eq!(join(&both, &both), Err(18), "{header} twice");
+    }
+}
+
+/// Pools at the limit: two tickets with the same good one are joined, and the result has it too. Any other gives 5 as a
+/// ticket's own refusal, whichever of the two asks for it, also where both do and they would be the same.
+#[test]
+fn limits_of_the_pool() {
+    let of_pool = |pool: usize| with_header(&format!("020006{pool:04X}"), &[(0, 1), (5, 2)]);
+    for pool in pools::PASS {
+        let joined = with_header(&format!("020006{pool:04X}"), &[(0, 1), (0, 1), (5, 2), (5, 2)]);
+        assert_eq!(join(&of_pool(pool), &of_pool(pool)), Ok(joined), "pool {pool}");
+    }
+    for pool in pools::GIVE_5 {
+        assert_eq!(join(&of_pool(pool), &of_pool(pool)), Err(5), "pool {pool} twice");
+        for good in pools::PASS {
+            assert_eq!(join(&of_pool(pool), &of_pool(good)), Err(5), "pool {pool} first");
+            assert_eq!(join(&of_pool(good), &of_pool(pool)), Err(5), "pool {pool} second");
+        }
     }
 }
 
@@ -223,12 +249,9 @@ fn different_tickets() {
 #[test]
 fn different_tickets_with_frames() {
     let good = ticket(&[(0, 1), (5, 2)]);
-    let edition_01 = b"01000600"
-        .iter()
-        .chain(b"0A0002\n00\n05\n")
-        .copied()
-        .collect::<Vec<u8>>();
-    let others = ["02010600", "02020600", "02000700", "02000601"].map(|header| with_header(header, &[(0, 1), (5, 2)]));
+    let edition_01 = b"010006000A0002\n00\n05\n".to_vec();
+    let others = ["020106000A", "020206000A", "020007000A", "020006000B"];
+    let others = others.map(|header| with_header(header, &[(0, 1), (5, 2)]));
     for other in others.iter().chain([&edition_01]) {
         assert_eq!(parse(other).err(), None);
         assert_eq!(join(&good, other), Err(18), "{}", other.escape_ascii());
@@ -241,7 +264,7 @@ fn different_tickets_with_frames() {
 fn order_of_18_19_and_10() {
     let frames = vec![(0, 1); 2049];
     let long = ticket(&frames);
-    for header in ["02010600", "02000700", "02000601"] {
+    for header in ["020106000A", "020007000A", "020006000B"] {
         let other = with_header(header, &frames);
         for places in [ROOM, 100, 0] {
             assert_eq!(join_in(places, &long, &other), Err(18), "{header}, {places} places");
@@ -251,18 +274,21 @@ fn order_of_18_19_and_10() {
     for places in [ROOM + 1000, ROOM, ROOM - 1, 100, 15, 14, 0] {
         assert_eq!(join_in(places, &long, &long), Err(19), "{places} places");
     }
-    let (one, other) = (ticket(&[(0, 1)]), with_header("02000700", &[(0, 1)]));
+    let (one, other) = (ticket(&[(0, 1)]), with_header("020007000A", &[(0, 1)]));
     assert_eq!(join_in(0, &one, &other), Err(18));
 }
 
 /// A ticket for each of its own refusals, 1 to 9 and 17. Some would be turned away by 18 as well.
-const REFUSED: [(u8, &[u8]); 12] = [
+const REFUSED: [(u8, &[u8]); 15] = [
     (1, b""),
     (1, b"0200060000A0000\n"),
     (2, b"03000600000000\n"),
     (3, b"02030600000000\n"),
     (4, b"02002100000000\n"),
     (5, b"02000600000000\n"),
+    (5, b"02000600C10000\n"),
+    (5, b"02000604000001\n0500000001\n"),
+    (5, b"020006FFFF1001\n"),
     (6, b"020006000A1001\n"),
     (7, b"020006000A0001\n"),
     (7, b"020105000B0001\n0000000001 "),
@@ -276,7 +302,7 @@ const REFUSED: [(u8, &[u8]); 12] = [
 fn own_refusals_come_first() {
     let good = [
         ticket(&[(0, 1)]),
-        with_header("02010600", &[(0, 1)]),
+        with_header("020106000A", &[(0, 1)]),
         b"010006000A0001\n00\n".to_vec(),
         many(4096, 0),
     ];
@@ -303,11 +329,10 @@ const BOTH: &[u8] = b"02001F00AB0005\n00000000FE\n1E00000100\n0A00000100\n0B0000
 /// "A digit now has its value in either case", in headers and lines, and the result is "an upper-case edition 02 ticket".
 #[test]
 fn either_case() {
-    let [upper, lower]: [fn(&[u8]) -> Vec<u8>; 2] = [<[u8]>::to_ascii_uppercase, <[u8]>::to_ascii_lowercase];
-    let as_typed: fn(&[u8]) -> Vec<u8> = <[u8]>::to_vec;
-    for one in [as_typed, upper, lower] {
-        for other in [as_typed, upper, lower] {
-            assert_eq!(join(&one(FIRST), &other(SECOND)), Ok(BOTH.to_vec()));
+    let typed = |text: &[u8]| [text.to_vec(), text.to_ascii_uppercase(), text.to_ascii_lowercase()];
+    for first in typed(FIRST) {
+        for second in typed(SECOND) {
+            assert_eq!(join(&first, &second), Ok(BOTH.to_vec()));
         }
     }
 }

@@ -17,8 +17,8 @@ const _: () = {
     assert!(size_of::<HubAnswer>() == 4 && offset_of!(HubAnswer, frames) == 2);
     assert!(size_of::<CheckAnswer>() == 8 && offset_of!(CheckAnswer, position) == 2);
     assert!(size_of::<RunAnswer>() == 12 && offset_of!(RunAnswer, delivered) == 4);
-    assert!(size_of::<Saver>() == 3084 && offset_of!(Saver, card) == 11 && offset_of!(Saver, position) == 1036);
-    assert!(size_of::<SaverAnswer>() == 3152 && offset_of!(SaverAnswer, saver) == 68);
+    assert!(size_of::<Saver>() == 588 && offset_of!(Saver, card) == 11 && offset_of!(Saver, position) == 204);
+    assert!(size_of::<SaverAnswer>() == 656 && offset_of!(SaverAnswer, saver) == 68);
 };
 
 /// C assertions that a struct of the header has the size of ours, and each field the place and size of ours.
@@ -162,7 +162,7 @@ fn constants_are_those_of_the_header() {
         ("OVERFULL", usize::from(OVERFULL)),
         ("NONE", usize::from(NONE)),
         ("MAX_CARDS", 32),
-        ("MAX_POOL", 1024),
+        ("MAX_POOL", MAX_POOL),
         ("MAX_FRAMES", 4096),
         ("MAX_TICKET_BYTES", 15 + 11 * 4096),
         ("MAX_PRINTED_BYTES", 5 + 11 * 4096),

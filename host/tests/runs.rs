@@ -1,6 +1,7 @@
 //! The run of a plan on the dock, for plans that are written down by hand, with the answer that the rules of document 01 and
 //! request 2026-05 give: the peak right after the reads of a cycle, and what still counts for it where a run breaks off.
 
+use dockplan::reference::MAX_POOL;
 use dockplan::{Cycle, Run};
 
 const MODES: [u8; 3] = [0, 1, 2];
@@ -53,7 +54,7 @@ fn is(m: usize, list: &[u8], plan: &[u16], run: Run) {
 /// "Read list 0 0 1 with plan 1 2 2 has peak 2, and plan 1 2 1 also." A pool with more buffers changes nothing.
 #[test]
 fn peaks() {
-    for m in [2, 3, 1024] {
+    for m in [2, 3, MAX_POOL] {
         is(m, &[0, 0, 1], &[1, 2, 2], complete(3, 2, 2));
         is(m, &[0, 0, 1], &[1, 2, 1], complete(3, 2, 2));
         is(m, &[0, 0, 1], &[1, 2, 3], complete(3, 3, 1));

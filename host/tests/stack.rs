@@ -3,7 +3,7 @@
 
 use dockplan::raw::{
     self, CheckAnswer, CountsAnswer, HubAnswer, JoinAnswer, Part, PlanAnswer, Position, RunAnswer, Saver, SaverAnswer,
-    TicketAnswer,
+    TicketAnswer, MAX_POOL,
 };
 use std::ffi::c_void;
 use std::hint::black_box;
@@ -18,7 +18,6 @@ extern "C" {
 const HEADER: &str = include_str!("../../include/dockplan.h");
 
 const MAX_CARDS: usize = 32;
-const MAX_POOL: usize = 1024;
 const MAX_FRAMES: usize = 4096;
 const MAX_PRINTED_BYTES: usize = 45061;
 const MAX_TICKET_BYTES: usize = 45071;
@@ -113,7 +112,7 @@ fn accepted_tickets() -> Vec<Vec<u8>> {
     let mut tickets = Vec::new();
     for edition in EDITIONS {
         for mode in 0..3 {
-            for pool in [1, 192, MAX_POOL] {
+            for pool in [1, 16, MAX_POOL] {
                 tickets.extend(lists().iter().map(|list| edition.ticket(mode, pool, list)));
             }
         }
@@ -123,12 +122,13 @@ fn accepted_tickets() -> Vec<Vec<u8>> {
 
 /// One ticket for each of the refusals 1 to 9 and 17; where lines are at fault, it is the last one, in each edition.
 fn refused_tickets() -> Vec<Vec<u8>> {
+    let pool = MAX_POOL + 1;
     let headers = [
         "0100020002000G",
         "03000200020000",
         "01030200020000",
         "01002100020000",
-        "01000204010000",
+        &format!("010002{pool:04X}0000"),
         "01000200021001",
     ];
     let mut tickets: Vec<Vec<u8>> = headers.iter().map(|header| format!("{header}\n").into()).collect();
@@ -167,8 +167,8 @@ fn tickets() -> Vec<Vec<u8>> {
 }
 
 /// A plan for each ticket and several more: the ticket's own; its cycles spread up to 65,535; each frame in a cycle of its
-/// own, forward, backward with cycles up to 4,096 and with larger ones, and backward in blocks of 192; all frames in one
-/// cycle; no cycles; and a plan of another length.
+/// own, forward, backward with cycles up to 4,096 and with larger ones, and backward in blocks that the largest pool has
+/// room for; all frames in one cycle; no cycles; and a plan of another length.
 fn tickets_with_plans() -> Vec<(Vec<u8>, Vec<u16>)> {
     let mut pairs = Vec::new();
     for ticket in tickets() {
@@ -179,7 +179,7 @@ fn tickets_with_plans() -> Vec<(Vec<u8>, Vec<u16>)> {
         let forward: Vec<u16> = (1..=frames).collect();
         let backward: Vec<u16> = (1..=frames).rev().collect();
         let mut in_blocks = forward.clone();
-        in_blocks.chunks_mut(192).for_each(<[u16]>::reverse);
+        in_blocks.chunks_mut(MAX_POOL).for_each(<[u16]>::reverse);
         let larger = backward.iter().map(|cycle| cycle * 15).collect();
         let in_one_cycle = vec![1; frames.into()];
         let no_cycles = vec![0; frames.into()];
@@ -294,9 +294,9 @@ fn the_hubs_give_cards_or_meet_every_refusal() {
 /// Records of savers: new ones, with a full pool, with all frames taken, closing, and the one of a refused new saver.
 fn savers() -> Vec<Saver> {
     let new = |cards, pool| unsafe { raw::dockplan_saver_new(cards, pool) }.saver;
-    let mut savers = vec![new(32, 1024), new(1, 1), new(0, 0)];
+    let mut savers = vec![new(32, MAX_POOL as u16), new(1, 1), new(0, 0)];
     for list in lists() {
-        let mut saver = new(32, 1024);
+        let mut saver = new(32, MAX_POOL as u16);
         for (position, &card) in list.iter().enumerate() {
             saver = unsafe { raw::dockplan_saver_save(saver, card as u8) }.saver;
             if position + 1 == MAX_POOL || position + 1 == MAX_FRAMES {
@@ -416,7 +416,7 @@ fn saver_new() -> usize {
     type Call = unsafe extern "C" fn(u8, u16) -> MaybeUninit<SaverAnswer>;
     most(
         raw::dockplan_saver_new as Address,
-        &[(32, 1024), (1, 1), (33, 1), (1, 0)],
+        &[(32, MAX_POOL as u16), (1, 1), (33, 1), (1, 0), (1, MAX_POOL as u16 + 1)],
         |call, &(cards, pool)| unsafe {
             black_box(transmute::<Address, Call>(call)(cards, pool));
         },

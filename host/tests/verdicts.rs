@@ -1,6 +1,7 @@
 //! The checker on plans that are written down by hand, with the verdict that the rules of document 01 give: which of several
 //! faults is named, and the largest cycle at 4,096 and one more, where the library goes from tables to counting.
 
+use dockplan::reference::MAX_POOL;
 use dockplan::{Cycle, Position, Verdict};
 
 const READ: u8 = 0;
@@ -151,7 +152,7 @@ fn pool_as_large_as_the_peak() {
         let top = plan.iter().copied().max().unwrap_or(0);
         let m = usize::from(peak);
         is_at_every_top(READ, m - 1, list, plan, overfull(position));
-        for m in [m, m + 1, 1024] {
+        for m in [m, m + 1, MAX_POOL] {
             is_at_every_top(READ, m, list, plan, valid(top, peak));
         }
     }
@@ -196,13 +197,13 @@ fn one_card_and_one_cycle() {
     for m in [1, 2, 4] {
         is_at_every_top(READ, m, &cards, &[3; 5], overfull(0));
     }
-    for m in [5, 6, 1024] {
+    for m in [5, 6, MAX_POOL] {
         is_at_every_top(READ, m, &cards, &[3; 5], shared_card(1));
     }
-    for m in [1, 2, 4, 5, 6, 1024] {
+    for m in [1, 2, 4, 5, 6, MAX_POOL] {
         is_at_every_top(SAVE, m, &cards, &[3; 5], shared_card(1));
     }
-    for m in [1, 1024] {
+    for m in [1, MAX_POOL] {
         is_at_every_top(READ, m, &[31; 4096], &[1; 4096], overfull(0));
         is_at_every_top(SAVE, m, &[31; 4096], &[1; 4096], shared_card(1));
     }
@@ -211,7 +212,7 @@ fn one_card_and_one_cycle() {
 #[test]
 fn one_frame() {
     for mode in BOTH {
-        for m in [1, 1024] {
+        for m in [1, MAX_POOL] {
             is_at_every_top(mode, m, &[0], &[1], valid_in(mode, 1, 1));
             is(mode, m, &[0], &[0], no_cycle(0));
         }
@@ -278,32 +279,39 @@ fn longest_list() {
 fn longest_list_falling() {
     let list: Vec<u8> = (0..4096).map(|position| (position % 32) as u8).collect();
     let falling: Vec<u16> = (1..=4096).rev().collect();
-    for m in [1, 2, 192, 1023, 1024] {
+    for m in [1, 2, 100, MAX_POOL - 1, MAX_POOL] {
         is_at_every_top(READ, m, &list, &falling, overfull(0));
         is_at_every_top(SAVE, m, &list, &falling, overfull(m as u16));
     }
 }
 
 /// One frame a cycle; the cycles fall in each block. The blocks begin at these positions, and the last one ends the list.
-fn falling_in_blocks(starts: [usize; 4]) -> Vec<u16> {
+fn falling_in_blocks(starts: &[usize]) -> Vec<u16> {
     let mut plan: Vec<u16> = (1..=4096).collect();
-    for (number, start) in starts.into_iter().enumerate() {
+    for (number, &start) in starts.iter().enumerate() {
         let end = starts.get(number + 1).copied().unwrap_or(4096);
         plan[start..end].reverse();
     }
     plan
 }
 
-/// Blocks of 1,024 frames are just what a pool of 1,024 has room for. Then the last one begins a frame earlier.
+/// Blocks of 192 frames are just what a pool of 192 has room for: 64 frames and then 21 blocks are the whole list. A read
+/// counts for the first frame of a block the 191 later ones of it, which have earlier cycles, and for the others fewer; a
+/// save counts for the last frame of a block the 191 earlier ones, which have later cycles. So a pool of 191 is overfull in
+/// the first whole block, which has positions 64 to 255: a read at 64, a save at 255. Then the last block begins a frame
+/// earlier, at 3,903 instead of 3,904, and has 193 frames: a pool of 192 is overfull at its first frame or at its last.
 #[test]
 fn longest_list_falling_in_blocks() {
     let list = [0; 4096];
-    let plan = falling_in_blocks([0, 1024, 2048, 3072]);
-    is_at_every_top(READ, 1024, &list, &plan, valid(4096, 1024));
-    is_at_every_top(SAVE, 1024, &list, &plan, valid(4096, 0));
-    is_at_every_top(READ, 1023, &list, &plan, overfull(0));
-    is_at_every_top(SAVE, 1023, &list, &plan, overfull(1023));
-    let plan = falling_in_blocks([0, 1024, 2048, 3071]);
-    is_at_every_top(READ, 1024, &list, &plan, overfull(3071));
-    is_at_every_top(SAVE, 1024, &list, &plan, overfull(4095));
+    let mut starts: Vec<usize> = [0].into_iter().chain((64..4096).step_by(192)).collect();
+    let plan = falling_in_blocks(&starts);
+    is_at_every_top(READ, 192, &list, &plan, valid(4096, 192));
+    is_at_every_top(SAVE, 192, &list, &plan, valid(4096, 0));
+    is_at_every_top(READ, 191, &list, &plan, overfull(64));
+    is_at_every_top(SAVE, 191, &list, &plan, overfull(255));
+    assert_eq!(starts.pop(), Some(3904));
+    starts.push(3903);
+    let plan = falling_in_blocks(&starts);
+    is_at_every_top(READ, 192, &list, &plan, overfull(3903));
+    is_at_every_top(SAVE, 192, &list, &plan, overfull(4095));
 }

@@ -1,10 +1,15 @@
 //! Tickets and plans, made by a generator with a fixed start: each run of the program has the same ones.
 
+use dockplan::raw::MAX_POOL;
+
 pub const MAX_CARDS: usize = 32;
-pub const MAX_POOL: usize = 1024;
 pub const MAX_FRAMES: usize = 4096;
 pub const MAX_PRINTED_BYTES: usize = 45061;
 pub const MAX_TICKET_BYTES: usize = 45071;
+
+/// The pool of the measured lists and savers: "the largest dock in use has 192 buffers".
+pub const POOL: usize = 192;
+const _: () = assert!(POOL <= MAX_POOL);
 
 /// The capture second of the first frame of a measured list.
 pub const FIRST_SECOND: usize = 0x6AF3_0900;
@@ -26,20 +31,25 @@ impl Random {
     }
 }
 
-/// A list of frames with its pool.
+/// A list of frames, in words, with its pool.
+#[derive(Clone)]
 pub struct List {
-    pub name: &'static str,
+    order: &'static str,
     pool: usize,
     pub cards: Vec<usize>,
 }
 
 impl List {
-    pub fn ticket(&self, mode: usize) -> Vec<u8> {
-        self.ticket_with_pool(mode, self.pool)
+    pub fn name(&self) -> String {
+        format!("{}, pool {}", self.order, self.pool)
     }
 
-    pub fn ticket_with_pool(&self, mode: usize, pool: usize) -> Vec<u8> {
-        ticket(mode, MAX_CARDS, pool, &self.cards)
+    pub fn with_pool(&self, pool: usize) -> List {
+        List { pool, ..self.clone() }
+    }
+
+    pub fn ticket(&self, mode: usize) -> Vec<u8> {
+        ticket(mode, MAX_CARDS, self.pool, &self.cards)
     }
 
     /// The same ticket in edition 2, with three frames captured in each second.
@@ -52,13 +62,13 @@ impl List {
 pub fn lists() -> [List; 2] {
     [
         List {
-            name: "at random, pool 192",
-            pool: 192,
+            order: "at random",
+            pool: POOL,
             cards: random_list(&mut Random::new(0x9E37_79B9_7F4A_7C15), MAX_CARDS, MAX_FRAMES),
         },
         List {
-            name: "in blocks of 16, pool 1,024",
-            pool: MAX_POOL,
+            order: "in blocks of 16",
+            pool: POOL,
             cards: list_in_blocks(MAX_CARDS, MAX_FRAMES, 16),
         },
     ]
@@ -95,13 +105,14 @@ fn list_in_blocks(cards: usize, frames: usize, block: usize) -> Vec<usize> {
     (0..frames).map(|position| position / block % cards).collect()
 }
 
-/// A ticket that is accepted: mostly a short one with a small pool, of either edition.
+/// A ticket that is accepted, but where its pool is one of those just over the limit: mostly a short one with a small pool, of
+/// either edition.
 fn any_ticket(random: &mut Random) -> Vec<u8> {
     let cards = 1 + random.below(MAX_CARDS);
-    let pool = 1 + if random.below(2) == 0 {
-        random.below(8)
-    } else {
-        random.below(MAX_POOL)
+    let pool = match random.below(16) {
+        0..8 => 1 + random.below(8),
+        8 => MAX_POOL - 1 + random.below(4),
+        _ => 1 + random.below(MAX_POOL),
     };
     let frames = if random.below(64) == 0 {
         random.below(MAX_FRAMES + 1)
@@ -121,7 +132,7 @@ fn any_ticket(random: &mut Random) -> Vec<u8> {
     })
 }
 
-/// A ticket that is accepted, or one time in three a damaged one; every second one is typed in lower case.
+/// Any such ticket, one time in three a damaged one; every second one is typed in lower case.
 pub fn mixed_ticket(random: &mut Random) -> Vec<u8> {
     let mut text = any_ticket(random);
     if random.below(2) == 0 {
@@ -219,11 +230,15 @@ fn falling_from(frames: usize, start: usize) -> Vec<u16> {
     falling(frames, &starts)
 }
 
-/// Plans for 4,096 frames and a pool of 1,000 in which most cycles fall, so that a frame may share its card with any
-/// earlier one: a valid one, one whose pool is overfull in the last block alone, and one with cycles over 4,096.
+/// The last block of a plan that is overfull there: more frames than a pool of 192 holds, and the others are whole blocks.
+const LONG_BLOCK: usize = 256;
+
+/// Plans for 4,096 frames and a pool of 192 in which most cycles fall, so that a frame may share its card with any earlier
+/// one: a valid one, one whose pool is overfull in the last block alone, and one with cycles over 4,096.
 pub fn plans_in_blocks() -> [Foreign; 3] {
-    let valid = falling_in_blocks(MAX_FRAMES, 1000);
-    let overfull = falling(MAX_FRAMES, &[0, 1000, 2000, 3000]);
+    let valid = falling_in_blocks(MAX_FRAMES, POOL);
+    let starts: Vec<usize> = (0..=MAX_FRAMES - LONG_BLOCK).step_by(POOL).collect();
+    let overfull = falling(MAX_FRAMES, &starts);
     let spread = valid.iter().map(|cycle| cycle * 15).collect();
     [
         Foreign {

@@ -10,6 +10,8 @@ mod instructions;
 mod measure;
 mod pairs;
 mod rows;
+mod saver_calls;
+mod savers;
 mod table;
 
 use implementations::{Implementation, C, LIBRARY, RUST};
@@ -19,10 +21,11 @@ use std::env;
 use std::process::ExitCode;
 use table::{Measures, Tally};
 
-/// How many mixed tickets are compared, how many pairs of them, and how many lists of a hub.
+/// How many mixed tickets are compared, how many pairs of them, how many lists of a hub, and how many savers.
 const MIXED_TICKETS: usize = 4000;
 const MIXED_PAIRS: usize = 8000;
 const MIXED_HUBS: usize = 20_000;
+const MIXED_SAVERS: usize = 4000;
 
 /// Those the library is compared with: each C compiler, then Rust.
 fn others() -> Vec<&'static Implementation> {
@@ -41,6 +44,7 @@ fn compare_answers(lists: &[List], rows: &[Row]) -> Result<(), String> {
     compare::compare_all(&LIBRARY, &others(), &tickets, MIXED_TICKETS)?;
     compare::compare_joins(&LIBRARY, &others(), MIXED_PAIRS)?;
     compare::compare_hubs(&LIBRARY, &others(), MIXED_HUBS)?;
+    savers::compare_all(MIXED_SAVERS)?;
     for row in rows {
         compare::compare_check(&LIBRARY, &others(), &row.work.ticket, &row.work.checked)?;
         for pair in &row.work.pairs {
@@ -91,6 +95,7 @@ fn main() -> ExitCode {
         return ExitCode::FAILURE;
     }
     let tally = print_table(&mut rows);
+    savers::print_table();
     alone::print_table(&lists[0]);
     table::print_tally(&tally);
     ExitCode::SUCCESS

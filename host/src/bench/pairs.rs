@@ -1,8 +1,9 @@
 //! Pairs of tickets to join: the halves that are measured, and mixed ones that are compared.
 
 use crate::inputs::{damage, mixed_ticket, random_list, ticket, with_seconds};
-use crate::inputs::{List, Random, FIRST_SECOND, MAX_CARDS, MAX_FRAMES, MAX_POOL};
+use crate::inputs::{List, Random, FIRST_SECOND, MAX_CARDS, MAX_FRAMES};
 use crate::rows::READ;
+use dockplan::raw::MAX_POOL;
 
 /// Where the number of frames stands in a header.
 const FRAMES_OFFSET: usize = 10;

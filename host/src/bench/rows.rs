@@ -12,8 +12,8 @@ const SAVE: usize = 1;
 const SAVE_AND_KEEP: usize = 2;
 pub const MODES: [usize; 3] = [READ, SAVE, SAVE_AND_KEEP];
 
-/// The pool that the foreign plans in blocks are made for.
-pub const FOREIGN_POOL: usize = 1000;
+/// The pools that the planner's pass is measured with, beside that of the lists.
+const SMALLER_POOLS: [usize; 2] = [1, 16];
 
 /// The library's part of the faster C's time, and of the fewer instructions, that a row may reach.
 const READER_AND_PLANNER: f64 = 1.05;
@@ -119,7 +119,7 @@ fn own_rows(list: &List) -> Vec<Row> {
         let plan = if call == "checker" { ", own plan" } else { "" };
         Row {
             call,
-            given: format!("{}, {}{plan}", mode_name(mode), list.name),
+            given: format!("{}, {}{plan}", mode_name(mode), list.name()),
             target,
             make,
             work: Work::new(ticket, checked),
@@ -141,6 +141,24 @@ fn own_rows(list: &List) -> Vec<Row> {
     ]
 }
 
+/// The planner on a list with smaller pools: a cycle for every frame, or for a few.
+fn pool_rows(list: &List) -> Vec<Row> {
+    let row = |pool, mode| {
+        let list = list.with_pool(pool);
+        let ticket = list.ticket(mode);
+        let checked = own_plan(&LIBRARY, &ticket);
+        Row {
+            call: "planner",
+            given: format!("{}, {}", mode_name(mode), list.name()),
+            target: READER_AND_PLANNER,
+            make: plan,
+            work: Work::new(ticket, checked),
+        }
+    };
+    let of_pool = |pool| MODES.map(|mode| row(pool, mode));
+    SMALLER_POOLS.into_iter().flat_map(of_pool).collect()
+}
+
 /// The printed plan of a ticket that is typed in lower case: read, planned and printed.
 fn typed_row(list: &List) -> Row {
     let mut ticket = list.ticket(READ);
@@ -148,7 +166,7 @@ fn typed_row(list: &List) -> Row {
     let checked = own_plan(&LIBRARY, &ticket);
     Row {
         call: "printing",
-        given: format!("read, typed in lower case, {}", list.name),
+        given: format!("read, typed in lower case, {}", list.name()),
         target: OTHERS,
         make: print,
         work: Work::new(ticket, checked),
@@ -162,7 +180,7 @@ fn seconds_rows(list: &List) -> Vec<Row> {
         let checked = own_plan(&LIBRARY, &ticket);
         Row {
             call,
-            given: format!("read, edition 02, {}", list.name),
+            given: format!("read, edition 02, {}", list.name()),
             target: EDITION_2,
             make,
             work: Work::new(ticket, checked),
@@ -199,33 +217,29 @@ fn hub_rows() -> Vec<Row> {
     hubs::lists().into_iter().map(row).collect()
 }
 
-/// The checker on plans that are not ours: in blocks, for a pool of their own; hopeless ones; and ones close to ours.
+/// The checker on plans that are not ours: in blocks, hopeless ones, and ones close to ours.
 fn foreign_rows(list: &List) -> Vec<Row> {
     let of_mode = |mode| {
         let own = own_plan(&LIBRARY, &list.ticket(mode));
-        let row = |list_name: &str, ticket: Vec<u8>, plan: inputs::Foreign| Row {
+        let row = |plan: inputs::Foreign| Row {
             call: "checker",
-            given: format!("{}, {list_name}, {}", mode_name(mode), plan.name),
+            given: format!("{}, {}, {}", mode_name(mode), list.name(), plan.name),
             target: OTHERS,
             make: check,
-            work: Work::new(ticket, plan.cycles),
+            work: Work::new(list.ticket(mode), plan.cycles),
         };
-        let in_blocks = inputs::plans_in_blocks().map(|plan| {
-            let ticket = list.ticket_with_pool(mode, FOREIGN_POOL);
-            row("at random, pool 1,000", ticket, plan)
-        });
-        let others = inputs::hopeless_plans()
-            .into_iter()
-            .chain(inputs::plans_like_own(list, mode == READ, &own));
-        let others = others.map(|plan| row(list.name, list.ticket(mode), plan));
-        in_blocks.into_iter().chain(others).collect::<Vec<Row>>()
+        let plans = inputs::plans_in_blocks().into_iter();
+        let plans = plans.chain(inputs::hopeless_plans());
+        let plans = plans.chain(inputs::plans_like_own(list, mode == READ, &own));
+        plans.map(row).collect::<Vec<Row>>()
     };
     [READ, SAVE].into_iter().flat_map(of_mode).collect()
 }
 
 pub fn rows(lists: &[List]) -> Vec<Row> {
     let own = lists.iter().flat_map(own_rows);
-    own.chain([typed_row(&lists[0])])
+    own.chain(pool_rows(&lists[0]))
+        .chain([typed_row(&lists[0])])
         .chain(foreign_rows(&lists[0]))
         .chain(lists.iter().flat_map(seconds_rows))
         .chain(join_rows(&lists[0]))

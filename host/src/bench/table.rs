@@ -22,11 +22,15 @@ enum Judged {
     Unknown,
 }
 
+/// The ratio to the C compiler that was faster: the larger one.
+pub fn better(ratios: &[Ratio]) -> Ratio {
+    let larger = |a: Ratio, b: &Ratio| if b.median > a.median { *b } else { a };
+    ratios[1..].iter().fold(ratios[0], larger)
+}
+
 impl Measures {
-    /// The ratio to the C compiler that was faster here: the larger one.
     fn time(&self) -> Ratio {
-        let larger = |a: Ratio, b: &Ratio| if b.median > a.median { *b } else { a };
-        self.ratios[1..].iter().fold(self.ratios[0], larger)
+        better(&self.ratios)
     }
 
     /// The library's instructions over those of the C compiler that needs fewer.
@@ -120,7 +124,7 @@ pub fn print_head(c: &[Implementation], counted: bool) {
     );
     println!("given      4,096 frames over 32 cards, and the kind of ticket, of edition 01 where none is named; the checker also a plan:");
     println!("           own plan: the planner's for this ticket, which is valid");
-    println!("           falling: one frame a cycle, falling in blocks of 1,000, valid; or in a last block of 1,096, overfull late; or with");
+    println!("           falling: one frame a cycle, falling in blocks of 192, valid; or with a last block of 256, overfull late; or with");
     println!("           each cycle 15 times as large, up to 61,440");
     println!("           falling throughout or from the middle: one frame a cycle in one falling block, from the start of the list or from");
     println!("           its middle on, so that the pool is overfull from there on (a save: 192 frames later)");

@@ -45,7 +45,7 @@ fn of_carriage_return(text: &[u8], place: &Place) -> String {
 /// Causes that a ticket shows beside the byte.
 pub fn of_ticket(ticket: &[u8], place: &Place) -> Vec<String> {
     let cause = match &place.expected {
-        Expected::Field(field) => of_field(ticket, field),
+        Expected::Field(field) => return of_field(ticket, field),
         Expected::CardBelow(cards) => of_card(ticket, place, *cards),
         Expected::SecondFrom(_) => Some(of_falling_second()),
         Expected::EndOfText => Some(of_bytes_after(ticket, place)),
@@ -54,12 +54,23 @@ pub fn of_ticket(ticket: &[u8], place: &Place) -> Vec<String> {
     cause.into_iter().collect()
 }
 
-fn of_field(ticket: &[u8], field: &place::Field) -> Option<String> {
+fn of_field(ticket: &[u8], field: &place::Field) -> Vec<String> {
     match field.refusal {
-        2 => Some("Only editions 01 and 02 are known.".to_string()),
-        3 => Some("The modes are 00 read, 01 save, 02 save and keep.".to_string()),
-        _ => meant_as_decimal(ticket.get(field.range())?, field.least, field.most),
+        2 => vec!["Only editions 01 and 02 are known.".to_string()],
+        3 => vec!["The modes are 00 read, 01 save, 02 save and keep.".to_string()],
+        _ => {
+            let digits = ticket.get(field.range()).unwrap_or_default();
+            let decimal = meant_as_decimal(digits, field.least, field.most);
+            decimal.into_iter().chain(of_large_pool(ticket, field)).collect()
+        }
     }
+}
+
+/// A pool over the limit, which was a higher one once.
+fn of_large_pool(ticket: &[u8], field: &place::Field) -> Option<String> {
+    let most = field.most;
+    let is_larger = field == place::POOL && field.value(ticket)? > most;
+    is_larger.then(|| format!("Docks have at most {most} buffers; tickets filed earlier may ask for more."))
 }
 
 fn of_card(ticket: &[u8], place: &Place, cards: u16) -> Option<String> {

@@ -2,6 +2,7 @@
 //! The widths of the header's fields and of a frame line, and their limits, stand here and nowhere else in `explain`.
 
 use super::digits::{first_wrong, long_number, number};
+use crate::raw::MAX_POOL;
 use std::ops::Range;
 
 /// A number in the header: where its digits stand, and its limits, which are both allowed.
@@ -20,12 +21,13 @@ pub const FIELDS: [Field; 5] = [
     Field { refusal: 2, name: "edition", offset: 0, digits: 2, least: 1, most: 2 },
     Field { refusal: 3, name: "mode", offset: 2, digits: 2, least: 0, most: 2 },
     Field { refusal: 4, name: "number of cards", offset: 4, digits: 2, least: 1, most: 32 },
-    Field { refusal: 5, name: "pool", offset: 6, digits: 4, least: 1, most: 1024 },
+    Field { refusal: 5, name: "pool", offset: 6, digits: 4, least: 1, most: MAX_POOL as u16 },
     Field { refusal: 6, name: "number of frames", offset: 10, digits: 4, least: 0, most: 4096 },
 ];
 
 pub const EDITION: &Field = &FIELDS[0];
 const CARDS: &Field = &FIELDS[2];
+pub const POOL: &Field = &FIELDS[3];
 const FRAMES: &Field = &FIELDS[4];
 
 /// The digits of the header; its end byte follows.

@@ -19,6 +19,9 @@ use crate::raw::{
 use dock::{Run, Step};
 use ticket::Ticket;
 
+/// "The largest dock in use has 192 buffers. That becomes the limit in tickets and in the saver: 192 passes and 193 gives 5."
+pub const MAX_POOL: usize = 192;
+
 /// "Tickets: 1 to 6, then line by line 7 before 8, then 9", with 17 "after 7 and 8 of the same line".
 pub fn parse(ticket: &[u8]) -> TicketAnswer {
     match Ticket::read(ticket) {
@@ -181,6 +184,13 @@ pub fn run_plan(ticket: &[u8], plan: &[u16]) -> RunAnswer {
 /// of the library answers this.
 pub fn breaks_off_at_an_end(ticket: &[u8], plan: &[u16]) -> bool {
     run_or_refusal(ticket, plan).is_ok_and(|run| run.broken_off == Some(Step::EndOfCycle))
+}
+
+/// "The peak of its run, on a dock with a buffer for every frame", whatever the ticket's pool is; none where the ticket is
+/// refused or the plan is for another one. No call of the library answers this of a plan at fault.
+pub fn peak(ticket: &[u8], plan: &[u16]) -> Option<u16> {
+    let read = Ticket::read(ticket).ok()?;
+    (plan.len() == read.list.len()).then(|| dock::run_plan(&read.list, plan.len(), plan).peak)
 }
 
 /// The ticket's own refusals, then 11: a plan "has not exactly L cycles". The mode is not looked at.

@@ -1,5 +1,6 @@
 //! The saver with a pool of its own: the frames in the order in which they came.
 
+use super::MAX_POOL;
 use crate::raw::{self, Cycle, Position, SaverAnswer};
 
 /// A frame that waits in the pool.
@@ -38,7 +39,7 @@ impl Saver {
     pub fn new(cards: u8, pool: u16) -> (SaverAnswer, Saver) {
         let refusal = if !(1..=32).contains(&cards) {
             4
-        } else if !(1..=1024).contains(&pool) {
+        } else if !(1..=MAX_POOL).contains(&pool.into()) {
             5
         } else {
             0
@@ -136,8 +137,8 @@ impl Saver {
             made: self.made,
             waiting: self.waiting.len() as u16,
             closing: self.closing,
-            card: [0; 1024],
-            position: [Position(0); 1024],
+            card: [0; raw::MAX_POOL],
+            position: [Position(0); raw::MAX_POOL],
         };
         for (place, frame) in self.waiting.iter().enumerate() {
             record.card[place] = frame.card;

@@ -1,6 +1,7 @@
 //! The ticket, editions 01 and 02: what its bytes say, and the grounds for turning it down (1 to 9 and 17, and 16 for a
 //! line).
 
+use super::MAX_POOL;
 use crate::raw::{Part, Position};
 
 pub const READ: u8 = 0;
@@ -44,7 +45,7 @@ impl Ticket {
         if !(1..=32).contains(&cards) {
             return Err(4);
         }
-        if !(1..=1024).contains(&pool) {
+        if !(1..=MAX_POOL).contains(&(pool as usize)) {
             return Err(5);
         }
         if frames > 4096 {

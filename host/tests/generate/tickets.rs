@@ -2,6 +2,8 @@
 //! the other edition, damaged ones, and bytes that are no ticket.
 
 use super::Random;
+use crate::pools;
+use dockplan::reference::MAX_POOL;
 
 /// The bytes of the header: 14 digits and the end byte.
 pub const HEADER_BYTES: usize = 15;
@@ -107,10 +109,10 @@ fn pool(random: &mut Random, frames: usize) -> usize {
         5 => frames.saturating_sub(1),
         6 => frames + 1,
         7 => random.between(1, frames + 1),
-        8 => random.pick(&[1023, 1024]),
+        8 => random.pick(&[MAX_POOL - 1, MAX_POOL]),
         _ => random.between(1, 40),
     };
-    wanted.clamp(1, 1024)
+    wanted.clamp(1, MAX_POOL)
 }
 
 /// The cards of a list: random, one card, round robin, blocked, or skewed to the low cards.
@@ -196,7 +198,7 @@ fn with_field_at_limit(random: &mut Random) -> Fields {
             0 => fields.edition = random.pick(&[0, 1, 2, 3, 3, 0x10, 0x11, 0x12, 0x20, 0xFF]),
             1 => fields.mode = random.pick(&[0, 2, 3, 3, 4, 0x10, 0xFF]),
             2 => fields.cards = random.pick(&[0, 1, 32, 33, 33, 34, 0xFF]),
-            3 => fields.pool = random.pick(&[0, 0, 1, 1024, 1025, 1025, 1026, 0xFFFF]),
+            3 => fields.pool = pool_at_limit(random),
             4 => fields.frames = random.pick(&[0, 1, 4095, 4096, 4097, 4098, 0x1FFF, 0xFFFF]),
             _ => {
                 let more = random.between(0, 4);
@@ -206,6 +208,14 @@ fn with_field_at_limit(random: &mut Random) -> Fields {
         }
     }
     fields
+}
+
+/// Mostly none or one too many, or one that passed before request 2026-07.
+fn pool_at_limit(random: &mut Random) -> usize {
+    let filed = random.between(MAX_POOL + 1, pools::BEFORE);
+    let good = random.pick(&pools::PASS);
+    let refused = random.pick(&pools::GIVE_5);
+    random.pick(&[0, MAX_POOL + 1, filed, good, refused])
 }
 
 /// A valid ticket with one to three bytes changed, inserted or removed, or cut short.

@@ -3,7 +3,7 @@
 
 use crate::generate::tickets::{self, Fields};
 use crate::generate::Random;
-use dockplan::reference;
+use dockplan::reference::{self, MAX_POOL};
 
 /// Any two tickets, and most often two that can be joined.
 pub fn any(random: &mut Random) -> [Vec<u8>; 2] {
@@ -119,9 +119,9 @@ fn other_cards(random: &mut Random, half: &Fields) -> usize {
     random.pick(&[half.cards + 1, half.cards - 1, any]).clamp(least, 32)
 }
 
-/// One more or less, another high or low byte alone, or any.
+/// One more or less, another high or low digit alone, or any.
 fn other_pool(random: &mut Random, pool: usize) -> usize {
-    let any = random.between(1, 1024);
-    let wanted = random.pick(&[pool + 1, pool - 1, pool ^ 0x100, pool ^ 0x200, pool ^ 0x20, any]);
-    wanted.clamp(1, 1024)
+    let any = random.between(1, MAX_POOL);
+    let wanted = random.pick(&[pool + 1, pool - 1, pool ^ 0x80, pool ^ 0x20, pool ^ 0x02, any]);
+    wanted.clamp(1, MAX_POOL)
 }

@@ -9,12 +9,9 @@ use crate::judged::with_pool;
 use crate::library;
 use crate::tally::Tally;
 use dockplan::raw::HubAnswer;
-use dockplan::reference;
+use dockplan::reference::{self, MAX_POOL};
 use std::collections::BTreeSet;
 use std::fmt::{Debug, Display};
-
-/// The largest pool of a ticket.
-const LARGEST_POOL: usize = 1024;
 
 /// Fails where the library's answer is not what it must be, and shows the input.
 #[track_caller]
@@ -86,7 +83,7 @@ fn takes_the_fullest_load(random: &mut Random, given: &Hub, cards: &[u8], tally:
     let loads: Vec<usize> = (0..8).map(load).collect();
     let fullest = loads.iter().copied().max().unwrap_or(0);
     let least = 7 * s + 1;
-    let larger = random.between(least, LARGEST_POOL);
+    let larger = random.between(least, MAX_POOL);
     for mode in 0..2 {
         for edition in 1..=2 {
             let ticket = ticket(edition, mode, least, cards);

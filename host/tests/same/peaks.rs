@@ -7,15 +7,20 @@ use crate::judged::{self, with_pool, Given};
 use crate::library;
 use crate::tally::Tally;
 use dockplan::raw::{CheckAnswer, RunAnswer, TicketAnswer, OVERFULL, VALID};
-use dockplan::reference;
+use dockplan::reference::{self, MAX_POOL};
 
 /// "A read plan without cycle 0 or a shared card and cycle is then valid for pool m exactly when the peak of its run, on a
-/// dock with a buffer for every frame, is at most m; the answer for a plan with a fault still shows 0." A ticket has at most
-/// 1,024 buffers, so there are no more frames than that.
+/// dock with a buffer for every frame, is at most m; the answer for a plan with a fault still shows 0." Where there are no
+/// more frames than a pool can have buffers, a run with so large a pool is one on that dock, and its peak the same.
 pub fn compare_pools(random: &mut Random, frames: usize, tally: &mut Tally) {
     let given = Given::read(random, frames);
     let plan = judged::plan_of_free_cycles(random, &given);
-    let peak = reference::run_plan(&with_pool(&given.ticket, frames), &plan).peak;
+    let peak = reference::peak(&given.ticket, &plan).expect("a plan for an accepted ticket");
+    if frames <= MAX_POOL {
+        let ticket = with_pool(&given.ticket, frames);
+        let run = library::run_plan(&ticket, &plan);
+        same(&ticket, format_args!("peak of the run of {plan:?}"), &run.peak, &peak);
+    }
     for pool in pools(random, peak.into()) {
         let ticket = with_pool(&given.ticket, pool);
         let checked = library::check(&ticket, &plan);
@@ -26,15 +31,15 @@ pub fn compare_pools(random: &mut Random, frames: usize, tally: &mut Tally) {
             (OVERFULL, 0)
         };
         same(&ticket, format_args!("verdict and peak of {plan:?}"), &found, &expected);
-        tally.peaks.count_pool(peak.into(), pool);
+        tally.peaks.count_pool(frames, peak.into(), pool);
     }
 }
 
 /// Pools next to the peak, smaller and larger ones, and any.
 fn pools(random: &mut Random, peak: usize) -> [usize; 6] {
-    let any = random.between(1, 1024);
+    let any = random.between(1, MAX_POOL);
     let smaller = random.between(1, peak);
-    [peak - 1, peak, peak + 1, smaller, peak + smaller, any].map(|pool| pool.clamp(1, 1024))
+    [peak - 1, peak, peak + 1, smaller, peak + smaller, any].map(|pool| pool.clamp(1, MAX_POOL))
 }
 
 /// A run's peak is above the pool exactly where the run broke off at an end of a cycle, which found so many frames held. For

@@ -5,9 +5,10 @@ use super::{same, with_mode};
 use crate::generate::tickets::CARD_DIGITS;
 use crate::generate::Random;
 use crate::library;
+use crate::pools;
 use crate::tally::Tally;
 use dockplan::raw::{self, SaverAnswer};
-use dockplan::reference;
+use dockplan::reference::{self, MAX_POOL};
 
 /// The library's record beside the reference's saver. Both have met the same calls.
 #[derive(Clone)]
@@ -111,8 +112,8 @@ pub fn compare_any_calls(random: &mut Random, tally: &mut Tally) {
 /// More than 4,096 saves, with bad cards between them and behind them, and then closing.
 pub fn compare_full_saver(random: &mut Random, tally: &mut Tally) {
     let cards = random.between(1, 32);
-    let pool = random.pick(&[1, 2, 7, 32, 100, 1023, 1024]);
-    let mut pair = Pair::new(cards as u8, pool, tally);
+    let pool = random.pick(&[1, 2, 7, 32, 100, MAX_POOL - 1, MAX_POOL]);
+    let mut pair = Pair::new(cards as u8, pool as u16, tally);
     while pair.record.taken < 4096 {
         pair.save(random.below(cards) as u8, tally);
         if random.once_in(50) {
@@ -134,7 +135,8 @@ fn any_new(random: &mut Random, tally: &mut Tally) -> Pair {
         cards = random.pick(&[0, 1, 32, 33, 255]);
     }
     if random.once_in(3) {
-        pool = random.pick(&[0, 1, 1024, 1025, 65_535]);
+        let limits = random.pick(&[&pools::PASS[..], &pools::GIVE_5]);
+        pool = random.pick(limits);
     }
     Pair::new(cards as u8, pool as u16, tally)
 }

@@ -3,12 +3,14 @@
 mod hub;
 mod joins;
 mod peaks;
+mod pools;
 mod verdicts;
 
 use dockplan::raw::{CheckAnswer, RunAnswer};
 use hub::Hubs;
 use joins::Joins;
 use peaks::Peaks;
+use pools::Pools;
 use verdicts::Verdicts;
 
 /// How much was compared, and how often each refusal, each verdict and each end of a run occurred.
@@ -31,6 +33,7 @@ pub struct Tally {
     /// By number. A ticket's own refusals are those above.
     later_refusals: [u64; NUMBERS],
     saver_refusals: [u64; NUMBERS],
+    pools: Pools,
     pub verdicts: Verdicts,
     pub peaks: Peaks,
     pub joins: Joins,
@@ -62,6 +65,7 @@ impl Tally {
             _ => 0,
         };
         self.of_editions[edition][usize::from(refusal)] += 1;
+        self.pools.count(ticket, refusal);
     }
 
     /// Counts a refusal that comes after the ticket's own ones.
@@ -110,6 +114,7 @@ impl Tally {
         }
         add_each(&mut self.later_refusals, &other.later_refusals);
         add_each(&mut self.saver_refusals, &other.saver_refusals);
+        self.pools.add(&other.pools);
         self.verdicts.add(&other.verdicts);
         self.peaks.add(&other.peaks);
         self.joins.add(&other.joins);
@@ -138,6 +143,7 @@ impl Tally {
                 first[number], second[number], others[number], self.later_refusals[number], self.saver_refusals[number]
             );
         }
+        self.pools.print();
         self.verdicts.print();
         println!(
             "runs: {} broken off, {} complete, {} incomplete",
@@ -163,6 +169,7 @@ impl Tally {
         often_enough("tickets of edition 02", second, &OF_EDITION_02);
         often_enough("later calls", &self.later_refusals, &LATER);
         often_enough("savers", &self.saver_refusals, &OF_SAVER);
+        self.pools.assert_not_rare();
         self.verdicts.assert_not_rare();
         self.peaks.assert_not_rare();
         self.joins.assert_not_rare();
