@@ -14,7 +14,7 @@ use Rattle.join.specs.Numbers.{numbersOf as numbersOfJoin}
 use Rattle.join.specs.Showing.{Showing}
 use Rattle.join.specs.declared.Answer.{Answer as JoinAnswer}
 use Rattle.hub.specs.Fullest.{Gathering}
-use Rattle.hub.specs.Gather.{gatherOf, answerOf as gatheredIn, bufferAfter as gatheredInto}
+use Rattle.hub.specs.Gather.{answerFor as gatheredIn, bufferAfter as gatheredInto}
 use Rattle.hub.specs.Numbers.{numbersOf as numbersOfHub}
 use Rattle.hub.specs.declared.Answer.{Answer as HubAnswer}
 use Rattle.checker.specs.Check.{checkOf}
@@ -57,11 +57,11 @@ module _ (first second before after : List ℕ) (a : JoinAnswer) (r : PlainJoin)
 -- the contract of `dockplan_hub` from that of `hub::gather`
 module _ (chosen cameras before after : List ℕ) (a : HubAnswer) (r : PlainHub) (e : r ≡ hubAnswer (numbersOfHub a)) where
   pub gathered :
-      (a ≡ gatheredIn (gatherOf chosen cameras (length before)))
+      (a ≡ gatheredIn chosen cameras (length before))
       × ((after ≡ gatheredInto chosen cameras before)
-      × ((numbersOfHub a ≡ numbersOfHub (gatheredIn (gatherOf chosen cameras (length before))))
+      × ((numbersOfHub a ≡ numbersOfHub (gatheredIn chosen cameras (length before)))
       × Gathering chosen (numbersOfHub a .refusal) (numbersOfHub a .frames) after))
-      → (r ≡ hubAnswer (numbersOfHub (gatheredIn (gatherOf chosen cameras (length before)))))
+      → (r ≡ hubAnswer (numbersOfHub (gatheredIn chosen cameras (length before))))
       × ((after ≡ gatheredInto chosen cameras before) × Gathering chosen (r .refusal) (r .frames) after)
   gathered p = (e ∙ ap hubAnswer (p .1 .1 .0), (p .1 .0, rw e (p .1 .1 .1)))
 

@@ -10,7 +10,7 @@ use Rattle.planner.specs.Plan.{planOf, bufferAfter}
 use Rattle.planner.specs.Numbers.{numbersOf as numbersOfPlan}
 use Rattle.join.specs.Join.{Outcome, joinOf, answerOf, bufferAfter as joinedInto}
 use Rattle.join.specs.Numbers.{numbersOf as numbersOfJoin}
-use Rattle.hub.specs.Gather.{gatherOf, answerOf as gatheredOf, bufferAfter as gatheredInto}
+use Rattle.hub.specs.Gather.{answerFor as gatheredOf, bufferAfter as gatheredInto}
 use Rattle.hub.specs.Numbers.{numbersOf as numbersOfHub}
 use Rattle.checker.specs.Check.{checkOf}
 use Rattle.checker.specs.Numbers.{numbersOf as numbersOfCheck}
@@ -159,7 +159,7 @@ resultOf (printPlan t buffer) = text (bytesIn (printed t) (length buffer)) (text
 resultOf (joinFirst t other buffer) = joinResult (joinOf t other) buffer
 resultOf (joinSecond t other buffer) = joinResult (joinOf other t) buffer
 resultOf (gather chosen cameras buffer) =
-    ofHub (hubAnswer (numbersOfHub (gatheredOf (gatherOf chosen cameras (length buffer))))) (gatheredInto chosen cameras buffer)
+    ofHub (hubAnswer (numbersOfHub (gatheredOf chosen cameras (length buffer)))) (gatheredInto chosen cameras buffer)
 resultOf (checkPlan t cycles) = ofCheck (checkAnswer (numbersOfCheck (checkOf (parse t) cycles)))
 resultOf (runPlan t cycles) = ofRun (runAnswer (numbersOfRun (ranOf (parse t) cycles)))
 resultOf (line t p) = ofLine (linePart t p) (lineRefusalOf (parse t) p)

@@ -13,7 +13,7 @@ use Rattle.ticket.specs.Ticket.{accepted, parse, countsOf}
 use Rattle.planner.specs.Demand3.{Demand3}
 use Rattle.hub.specs.Cases.{Case, told, asked, expected, cardCases, tightCases}
 use Rattle.hub.specs.Fullest.{ReadOrSave, hubHeader, hubTicket, TakesFullest, Gathering}
-use Rattle.hub.specs.Gather.{hubCards, gatherOf, answerOf, Answered}
+use Rattle.hub.specs.Gather.{hubCards, answerFor, Answered}
 use Rattle.hub.specs.Grounds.{Known, Seen, Says}
 use Rattle.hub.specs.Numbers.{numbersOf}
 use Rattle.hub.specs.Patterns.{hubSize, patternCard, NamesEvery, visits}
@@ -29,10 +29,10 @@ use Rattle.hub.proofs.Tickets as tickets
 -- Every call is answered as the rows of the grounds say (specs/Grounds.antt), on exactly the stated conditions and in the stated order; and an answer that
 -- fits the rows is the call's.
 module _ (chosen cameras : List ℕ) (places : ℕ) where
-  pub gather-says : Says chosen cameras places (answerOf (gatherOf chosen cameras places))
+  pub gather-says : Says chosen cameras places (answerFor chosen cameras places)
   gather-says = refusals.says chosen cameras places
 
-  pub gather-only : (r : Answer) → Says chosen cameras places r → r ≡ answerOf (gatherOf chosen cameras places)
+  pub gather-only : (r : Answer) → Says chosen cameras places r → r ≡ answerFor chosen cameras places
   gather-only = refusals.says-only chosen cameras places
 
 -- Every answer that equals the definitions of specs/Gather.antt, for whichever patterns, cameras and buffer, keeps the request's promises about the cards

@@ -12,7 +12,7 @@ use Rattle.counting.specs.Count.{largest}
 use Rattle.counting.proofs.Bits.{by-cases, and-left, and-right}
 use Rattle.counting.proofs.Lists.{length-tabulate, le-largest, largest-le, largest-met}
 use Rattle.header.specs.Limits.{maxFrames}
-use Rattle.hub.specs.Gather.{maxCameras, cameraOf, cardFor, hubCards, knownPatterns, gatherOf, answerOf}
+use Rattle.hub.specs.Gather.{maxCameras, cameraOf, cardFor, hubCards, knownPatterns, gatherOf, answerOf, answerFor}
 use Rattle.hub.specs.Grounds.{Known, Seen, Fits, Says, row20, row6, row21, row10, none}
 use Rattle.hub.specs.Numbers.{numbersOf}
 use Rattle.hub.specs.Patterns.{hubSize}
@@ -87,7 +87,7 @@ as-many chosen cameras = length-tabulate (length cameras) (cardFor chosen camera
 
 module _ (chosen cameras : List ℕ) (places : ℕ) where
   abbrev answer : Answer
-  answer = answerOf (gatherOf chosen cameras places)
+  answer = answerFor chosen cameras places
 
   -- a row's answer is the call's
   pub says-only : (r : Answer) → Says chosen cameras places r → r ≡ answer

@@ -127,6 +127,7 @@ bytes-are (suc m) b i h =
     rw (whole, low-byte (b i) rest (h i), high-bytes (b i) rest (h i), bytes-are m b (suc i) h)
 
 pub card-bytes :
-    (card : ℕ → ℕ) → ((k : ℕ) → k < hubSize → card k < 256) → (k : ℕ) → lowBytes 8 (wordAt card k) ≡ values (λ j. card (j % hubSize)) k hubSize
+    (card : ℕ → ℕ) → ((k : ℕ) → k < hubSize → card k < 256)
+    → (k : ℕ) → lowBytes 8 (wordAt card k) ≡ values (λ j. card (j % hubSize)) k hubSize
 unfolding wordAt
 card-bytes card low k = bytes-are hubSize (λ j. card (j % hubSize)) k (λ j. low (j % hubSize) (omega arith))

@@ -66,6 +66,10 @@ unfoldable pub answerOf : Outcome → Answer
 answerOf (gathered cards) = Gathered (length cards)
 answerOf (turnedDown k) = Refused k
 
+-- what a call answers, with a buffer of so many places
+abbrev pub answerFor : List ℕ → List ℕ → ℕ → Answer
+answerFor chosen cameras places = answerOf (gatherOf chosen cameras places)
+
 -- What it leaves in the buffer: "places past the list are kept"; a refusal changes nothing.
 unfoldable pub leaves : Outcome → List ℕ → List ℕ
 leaves (gathered cards) before = written cards before
@@ -76,5 +80,5 @@ bufferAfter chosen cameras before = leaves (gatherOf chosen cameras (length befo
 
 -- What one call did: the answer and the buffer, both equal to the definitions above.
 pub record Answered (chosen cameras before after : List ℕ) (r : Answer) : Type 0 where
-  pub answer : r ≡ answerOf (gatherOf chosen cameras (length before))
+  pub answer : r ≡ answerFor chosen cameras (length before)
   pub buffer : after ≡ bufferAfter chosen cameras before

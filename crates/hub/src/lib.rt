@@ -5,7 +5,7 @@ ghost use Prim.Native.Nat.{_+_, _≤_};
 ghost use lib.ListN.{length};
 ghost use Rattle.counting.specs.Count.{largest, written};
 ghost use Rattle.hub.specs.Fullest.{Gathering};
-ghost use Rattle.hub.specs.Gather.{hubCards, gatherOf, answerOf, bufferAfter};
+ghost use Rattle.hub.specs.Gather.{hubCards, answerFor, bufferAfter};
 ghost use Rattle.hub.specs.Grounds.{Fits};
 ghost use Rattle.hub.specs.Numbers.{numbersOf};
 ghost use Rattle.hub.specs.Patterns.{hubSize};
@@ -42,7 +42,7 @@ fn largest(numbers: &[u8]) -> u8
 
 // The number of the refusal, with a buffer of so many places: 20, then 6, then 21, then 10; 0 for none.
 fn refusal(chosen: &[u8], cameras: &[u8], places: usize) -> u8
-    ensures { λ r. ⌜ r ≡ numbersOf (answerOf (gatherOf (now (chosen .entry)) (now (cameras .entry)) places)) .refusal ⌝ }
+    ensures { λ r. ⌜ r ≡ numbersOf (answerFor (now (chosen .entry)) (now (cameras .entry)) places) .refusal ⌝ }
 {
     let count = chosen.len();
     let frames = cameras.len();
@@ -125,9 +125,9 @@ fn place(chosen: &[u8], cameras: &[u8], cards: &mut [u8])
 // Gathers a list of frames, given by the camera of each: writes their cards over the front of the buffer; later places keep their content.
 // `chosen` has the pattern of each camera. A refusal changes nothing. `fullest` is what request 2026-06 promises of the cards that now stand there.
 pub fn gather(chosen: &[u8], cameras: &[u8], cards: &mut [u8]) -> Answer
-    ensures answer { λ r. ⌜ r ≡ answerOf (gatherOf (now (chosen .entry)) (now (cameras .entry)) (length (now (cards .entry)))) ⌝ }
+    ensures answer { λ r. ⌜ r ≡ answerFor (now (chosen .entry)) (now (cameras .entry)) (length (now (cards .entry))) ⌝ }
     ensures buffer { λ r. ⌜ now (cards .exit) ≡ bufferAfter (now (chosen .entry)) (now (cameras .entry)) (now (cards .entry)) ⌝ }
-    ensures numbers { λ r. ⌜ numbersOf r ≡ numbersOf (answerOf (gatherOf (now (chosen .entry)) (now (cameras .entry)) (length (now (cards .entry))))) ⌝ }
+    ensures numbers { λ r. ⌜ numbersOf r ≡ numbersOf (answerFor (now (chosen .entry)) (now (cameras .entry)) (length (now (cards .entry)))) ⌝ }
     ensures fullest { λ r. ⌜ Gathering (now (chosen .entry)) (numbersOf r .refusal) (numbersOf r .frames) (now (cards .exit)) ⌝ }
 {
     let number = refusal(chosen, cameras, cards.len());

@@ -12,19 +12,21 @@ use borrow.Author.Tests.{ltb-true}
 use Rattle.schedule.specs.Greedy.{Plan}
 use Rattle.schedule.specs.Demand.{SaveDemand, ReadDemand}
 use Rattle.counting.proofs.Bits.{by-cases}
-use Rattle.schedule.proofs.Main.{save-correct, read-correct, save-demand, read-demand}
+use Rattle.schedule.proofs.Main.{save-demand, read-demand}
 use Rattle.header.specs.declared.Header.{Header}
 use Rattle.ticket.specs.Ticket.{accepted, parse}
-use Rattle.ticket.proofs.Main.{accepted-fits}
+use Rattle.ticket.proofs.Main.{accepted-pool}
 use Rattle.planner.specs.Numbers.{numbersOf}
 use Rattle.mode_plans.specs.Plans.{planFor}
-use Rattle.mode_plans.proofs.Plans.{plan-read, plan-save}
+use Rattle.mode_plans.proofs.Plans.{plan-read, plan-save, plan-length}
 use Rattle.planner.specs.Plan.{planOf, bufferAfter, Answered}
 use Rattle.planner.specs.Demand3.{Demand3}
 use Rattle.planner.specs.declared.Answer.{Answer}
 
 -- an accepted ticket, and a buffer with room
-module _ (h : Header) (cards before after : List ℕ) (r : Answer) (a : Answered (accepted h cards) before after r) (room : length cards ≤ length after) where
+module _
+    (h : Header) (cards before after : List ℕ) (r : Answer) (a : Answered (accepted h cards) before after r)
+    (room : length cards ≤ length after) (pool : 1 ≤ h .pool) where
   abbrev plan : Plan
   plan = planFor (h .mode) (h .pool) cards
 
@@ -39,33 +41,31 @@ module _ (h : Header) (cards before after : List ℕ) (r : Answer) (a : Answered
   unfolding planOf
   answers-T = rw (a .answer, has-room) (refl, refl)
 
-  holds-plan : length (plan .cycles) ≡ length cards → take (length cards) after ≡ plan .cycles
+  holds-plan : take (length cards) after ≡ plan .cycles
   unfolding bufferAfter
-  holds-plan e = rw (a .buffer, has-room) (take-at (plan .cycles) (drop (length (plan .cycles)) before) (length cards) e)
+  holds-plan =
+      rw (a .buffer, has-room)
+      (take-at (plan .cycles) (drop (length (plan .cycles)) before) (length cards) (plan-length (h .mode) (h .pool) cards pool))
 
   -- what is true of the plan is true of the buffer's front and of the T answered
   so-of-call :
-      (P : List ℕ → ℕ → Type 0) → length (plan .cycles) ≡ length cards → P (plan .cycles) (plan .T)
+      (P : List ℕ → ℕ → Type 0) → P (plan .cycles) (plan .T)
       → (numbersOf r .refusal ≡ 0) × P (take (length cards) after) (numbersOf r .cycles .0)
-  so-of-call P e p = (answers-T .0, rw (answers-T .1, holds-plan e) p)
+  so-of-call P p = (answers-T .0, rw (answers-T .1, holds-plan) p)
 
 module _ (t before after : List ℕ) (r : Answer) (a : Answered (parse t) before after r) where
   pub demand-3 : Demand3 t (numbersOf r .refusal) (numbersOf r .cycles .0) after
   demand-3 =
       record {
-        dock-range = λ h cards e. accepted-fits t h cards e .pool;
+        dock-range = accepted-pool t;
         read-plan = λ h cards e mode room.
-            let p = plan-read (h .mode) (h .pool) cards mode in
-            let pool = accepted-fits t h cards e .pool .0 in
-            so-of-call h cards before after r (rw e at a) room (ReadDemand (h .pool) cards)
-            (rw p (read-correct (h .pool) cards pool .proper .one-each))
-            (rw p (read-demand (h .pool) cards pool));
+            let pool = accepted-pool t h cards e .0 in
+            so-of-call h cards before after r (rw e at a) room pool (ReadDemand (h .pool) cards)
+            (rw (plan-read (h .mode) (h .pool) cards mode) (read-demand (h .pool) cards pool));
         save-plan = λ h cards e mode room.
-            let p = plan-save (h .mode) (h .pool) cards mode in
-            let pool = accepted-fits t h cards e .pool .0 in
-            so-of-call h cards before after r (rw e at a) room (SaveDemand (h .pool) cards)
-            (rw p (save-correct (h .pool) cards pool .proper .one-each))
-            (rw p (save-demand (h .pool) cards pool));
+            let pool = accepted-pool t h cards e .0 in
+            so-of-call h cards before after r (rw e at a) room pool (SaveDemand (h .pool) cards)
+            (rw (plan-save (h .mode) (h .pool) cards mode) (save-demand (h .pool) cards pool));
       }
 
   -- the whole contract of `plan`

@@ -13,7 +13,8 @@ use Rattle.hub.proofs.place_each.Tie as tie
 
 abbrev Inv-loop : tie.InvT-loop
 Inv-loop cameras from to words₀ cards₀ i₀ words cards i =
-    (from ≤ i) × (i ≤ to) × (length words ≡ length words₀) × (length cards ≡ length cards₀) × Places cameras from i words₀ cards₀ words cards
+    (from ≤ i) × (i ≤ to) × (length words ≡ length words₀) × (length cards ≡ length cards₀)
+    × Places cameras from i words₀ cards₀ words cards
 
 abbrev μ-loop : tie.MeasureT-loop
 μ-loop cameras from to words₀ cards₀ i₀ words cards i = to - i
