@@ -6,60 +6,60 @@ use mathlib.Core.Logic.{◌≢◌}
 use mathlib.Core.Bool.{cond}
 use native.Mathlib.Omega.{arith}
 use lib.Dec.{eqb}
-use Rattle.schedule.specs.Verdict.{Fault, noCycle, sharedCard, overfull, valid, faulty}
+use Rattle.schedule.specs.Verdict.{Fault, no_cycle, shared_card, overfull, valid, faulty}
 use Rattle.schedule.specs.Verdict as theory
-use Rattle.checker.specs.Check.{atFault, answer_of}
-use Rattle.checker.specs.Numbers.{Numbers, validNumber, faultNumber, faultAt, numbersOf}
+use Rattle.checker.specs.Check.{at_fault, answer_of}
+use Rattle.checker.specs.Numbers.{Numbers, valid_number, fault_number, fault_at, numbers_of}
 use Rattle.checker.specs.declared.Verdict.{Verdict}
 use Rattle.checker.specs.declared.Verdict.TheVariants.{Valid, NoCycle, SharedCard, Overfull, Refused}
 
-abbrev pub verdictNumber : Verdict → ℕ
-verdictNumber r = (numbersOf r).verdict
+abbrev pub verdict_number : Verdict → ℕ
+verdict_number r = (numbers_of r).verdict
 
-abbrev pub positionNumber : Verdict → ℕ
-positionNumber r = (numbersOf r).position.0
+abbrev pub position_number : Verdict → ℕ
+position_number r = (numbers_of r).position.0
 
-abbrev pub peakNumber : Verdict → ℕ
-peakNumber r = (numbersOf r).peak
+abbrev pub peak_number : Verdict → ℕ
+peak_number r = (numbers_of r).peak
 
 -- only a valid plan has a peak
-pub no-peak : (r : Verdict) → verdictNumber r ≢ validNumber → peakNumber r ≡ 0
-no-peak (Valid T p) n = absurd (n refl)
-no-peak (NoCycle p) n = refl
-no-peak (SharedCard p) n = refl
-no-peak (Overfull p) n = refl
-no-peak (Refused k) n = refl
+pub no_peak : (r : Verdict) → verdict_number r ≢ valid_number → peak_number r ≡ 0
+no_peak (Valid T p) n = absurd (n refl)
+no_peak (NoCycle p) n = refl
+no_peak (SharedCard p) n = refl
+no_peak (Overfull p) n = refl
+no_peak (Refused k) n = refl
 
 -- valid is 1 and a refusal has 0, so that neither is a fault
-pub from-two : (f : Fault) → 2 ≤ faultNumber f
-from-two noCycle = omega arith
-from-two sharedCard = omega arith
-from-two overfull = omega arith
+pub from_two : (f : Fault) → 2 ≤ fault_number f
+from_two no_cycle = omega arith
+from_two shared_card = omega arith
+from_two overfull = omega arith
 
 -- each fault has a number of its own
-abbrev faultWith : ℕ → Fault
-faultWith n = cond (eqb n (faultNumber noCycle)) noCycle (cond (eqb n (faultNumber sharedCard)) sharedCard overfull)
+abbrev fault_with : ℕ → Fault
+fault_with n = cond (eqb n (fault_number no_cycle)) no_cycle (cond (eqb n (fault_number shared_card)) shared_card overfull)
 
-its_own : (f : Fault) → faultWith (faultNumber f) ≡ f
-its_own noCycle = refl
-its_own sharedCard = refl
+its_own : (f : Fault) → fault_with (fault_number f) ≡ f
+its_own no_cycle = refl
+its_own shared_card = refl
 its_own overfull = refl
 
-same-fault : (f g : Fault) → faultNumber f ≡ faultNumber g → f ≡ g
-same-fault f g e = sym (its_own f) ∙ ap faultWith e ∙ its_own g
+same_fault : (f g : Fault) → fault_number f ≡ fault_number g → f ≡ g
+same_fault f g e = sym (its_own f) ∙ ap fault_with e ∙ its_own g
 
 -- the numbers of a fault, whichever it is
-fault-numbers : (i : ℕ) (f : Fault) → numbersOf (atFault i f) ≡ faultAt (record { 0 = i }) f
-fault-numbers i noCycle = refl
-fault-numbers i sharedCard = refl
-fault-numbers i overfull = refl
+fault_numbers : (i : ℕ) (f : Fault) → numbers_of (at_fault i f) ≡ fault_at (record { 0 = i }) f
+fault_numbers i no_cycle = refl
+fault_numbers i shared_card = refl
+fault_numbers i overfull = refl
 
-pub was-valid : (v : theory.Verdict) → verdictNumber (answer_of v) ≡ validNumber → (T : ℕ) × (p : ℕ) × (v ≡ valid T p)
-was-valid (valid T p) e = (T, p, refl)
-was-valid (faulty i f) e = absurd (omega (arith, ap (λ (x : Numbers). x.verdict) (fault-numbers i f), e, from-two f))
+pub was_valid : (v : theory.Verdict) → verdict_number (answer_of v) ≡ valid_number → (T : ℕ) × (p : ℕ) × (v ≡ valid T p)
+was_valid (valid T p) e = (T, p, refl)
+was_valid (faulty i f) e = absurd (omega (arith, ap (λ (x : Numbers). x.verdict) (fault_numbers i f), e, from_two f))
 
-pub was-fault : (v : theory.Verdict) (f : Fault) → verdictNumber (answer_of v) ≡ faultNumber f → v ≡ faulty (positionNumber (answer_of v)) f
-was-fault (valid T p) f e = absurd (omega (arith, e, from-two f))
-was-fault (faulty i g) f e =
-    let n = fault-numbers i g in
-    ap (faulty i) (same-fault g f (sym (ap (λ (x : Numbers). x.verdict) n) ∙ e)) ∙ ap (λ (x : Numbers). faulty x.position.0 f) (sym n)
+pub was_fault : (v : theory.Verdict) (f : Fault) → verdict_number (answer_of v) ≡ fault_number f → v ≡ faulty (position_number (answer_of v)) f
+was_fault (valid T p) f e = absurd (omega (arith, e, from_two f))
+was_fault (faulty i g) f e =
+    let n = fault_numbers i g in
+    ap (faulty i) (same_fault g f (sym (ap (λ (x : Numbers). x.verdict) n) ∙ e)) ∙ ap (λ (x : Numbers). faulty x.position.0 f) (sym n)

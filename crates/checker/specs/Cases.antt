@@ -1,11 +1,11 @@
 -- The verdicts of the table of cases (crates/schedule/specs/Cases.antt: the starred ones of document 01 among them), asked for by tickets:
 -- what `check` answers. proofs/Cases.antt proves them by computing.
 -- Assumes nothing.
-use Rattle.schedule.specs.Cases.{Answer, Case, ◌gives◌, plan, dock, most, verdict, readPlan, savePlan, keepPlan, drive, peakOf, checkRead, checkSave}
-use Rattle.header.specs.Limits.{modeRead, modeSave}
+use Rattle.schedule.specs.Cases.{Answer, Case, ◌gives◌, plan, dock, most, verdict, read_plan, save_plan, keep_plan, drive, peak_of, check_read, check_save}
+use Rattle.header.specs.Limits.{mode_read, mode_save}
 use Rattle.ticket.specs.Ticket.{parse}
-use Rattle.ticket.specs.Print.{ticketFor}
-use Rattle.checker.specs.Check.{answer_of, checkOf}
+use Rattle.ticket.specs.Print.{ticket_for}
+use Rattle.checker.specs.Check.{answer_of, check_of}
 use Rattle.checker.specs.declared.Verdict.{Verdict}
 use Rattle.checker.specs.declared.Verdict.TheVariants.{Refused}
 
@@ -18,10 +18,10 @@ told (verdict v) = answer_of v
 
 -- a verdict of the table, asked for; the other cases are not about verdicts
 abbrev pub asked : Case → Verdict
-asked (readPlan m cards gives a) = told a
-asked (savePlan m cards gives a) = told a
-asked (keepPlan m cards gives a) = told a
+asked (read_plan m cards gives a) = told a
+asked (save_plan m cards gives a) = told a
+asked (keep_plan m cards gives a) = told a
 asked (drive m cards steps gives a) = told a
-asked (peakOf m cards steps gives a) = told a
-asked (checkRead m cards cycles gives a) = checkOf (parse (ticketFor modeRead m cards)) cycles
-asked (checkSave m cards cycles gives a) = checkOf (parse (ticketFor modeSave m cards)) cycles
+asked (peak_of m cards steps gives a) = told a
+asked (check_read m cards cycles gives a) = check_of (parse (ticket_for mode_read m cards)) cycles
+asked (check_save m cards cycles gives a) = check_of (parse (ticket_for mode_save m cards)) cycles

@@ -1,7 +1,7 @@
 -- The numbers of each case of a verdict (document 01, "The checker and the saver" and "Grounds for turning a ticket or call down").
 -- Assumes nothing.
 use Rattle.std.specs.Prelude.{ℕ}
-use Rattle.schedule.specs.Verdict.{Fault, noCycle, sharedCard, overfull}
+use Rattle.schedule.specs.Verdict.{Fault, no_cycle, shared_card, overfull}
 use Rattle.counting.specs.declared.Cycle.{Cycle}
 use Rattle.counting.specs.declared.Position.{Position}
 use Rattle.checker.specs.declared.Verdict.{Verdict}
@@ -16,29 +16,29 @@ pub record Numbers : Type 0 where
   pub peak : ℕ
 
 -- The verdict's number: valid, and the faults in document 01's order.
-abbrev pub validNumber : ℕ
-validNumber = 1
+abbrev pub valid_number : ℕ
+valid_number = 1
 
-abbrev pub faultNumber : Fault → ℕ
-faultNumber noCycle = 2
-faultNumber sharedCard = 3
-faultNumber overfull = 4
+abbrev pub fault_number : Fault → ℕ
+fault_number no_cycle = 2
+fault_number shared_card = 3
+fault_number overfull = 4
 
 -- "valid with T and .. the peak"; it names no position
-abbrev pub validWith : Cycle → ℕ → Numbers
-validWith T peak = record { refusal = 0; verdict = validNumber; position = record { 0 = 0 }; cycles = T; peak = peak }
+abbrev pub valid_with : Cycle → ℕ → Numbers
+valid_with T peak = record { refusal = 0; verdict = valid_number; position = record { 0 = 0 }; cycles = T; peak = peak }
 
 -- "With a fault, T and peak are 0."
-abbrev pub faultAt : Position → Fault → Numbers
-faultAt p f = record { refusal = 0; verdict = faultNumber f; position = p; cycles = record { 0 = 0 }; peak = 0 }
+abbrev pub fault_at : Position → Fault → Numbers
+fault_at p f = record { refusal = 0; verdict = fault_number f; position = p; cycles = record { 0 = 0 }; peak = 0 }
 
 -- "Beside a refusal's number, other numbers of the answer are 0"
-abbrev pub refusedBy : ℕ → Numbers
-refusedBy k = record { refusal = k; verdict = 0; position = record { 0 = 0 }; cycles = record { 0 = 0 }; peak = 0 }
+abbrev pub refused_by : ℕ → Numbers
+refused_by k = record { refusal = k; verdict = 0; position = record { 0 = 0 }; cycles = record { 0 = 0 }; peak = 0 }
 
-abbrev pub numbersOf : Verdict → Numbers
-numbersOf (Valid T peak) = validWith T peak
-numbersOf (NoCycle p) = faultAt p noCycle
-numbersOf (SharedCard p) = faultAt p sharedCard
-numbersOf (Overfull p) = faultAt p overfull
-numbersOf (Refused k) = refusedBy k
+abbrev pub numbers_of : Verdict → Numbers
+numbers_of (Valid T peak) = valid_with T peak
+numbers_of (NoCycle p) = fault_at p no_cycle
+numbers_of (SharedCard p) = fault_at p shared_card
+numbers_of (Overfull p) = fault_at p overfull
+numbers_of (Refused k) = refused_by k

@@ -2,8 +2,8 @@
 ghost use Rattle.std.specs.Prelude.{◌≡◌, take};
 ghost use Rattle.ticket.specs.Ticket.{accepted, parse};
 ghost use Rattle.ticket.specs.Grounds.{Fits};
-ghost use Rattle.checker.specs.Check.{checkOf};
-ghost use Rattle.checker.specs.Numbers.{numbersOf};
+ghost use Rattle.checker.specs.Check.{check_of};
+ghost use Rattle.checker.specs.Numbers.{numbers_of};
 ghost use Rattle.checker.specs.Exact.{Exact};
 
 mod verdicts;
@@ -25,7 +25,7 @@ pub enum Verdict {
 // Checks a plan for a list that is read: the cards of its frames stand at the front of `card`.
 fn check_list(h: Header, card: &[u8], plan: &[u16]) -> Verdict
     requires { Fits h (take h.frames card.now) }
-    ensures { result ≡ checkOf (accepted h (take h.frames card.now)) plan.now }
+    ensures { result ≡ check_of (accepted h (take h.frames card.now)) plan.now }
 {
     if h.mode == limits::MODE_SAVE_AND_KEEP {
         return Verdict::Refused(12);
@@ -40,9 +40,9 @@ fn check_list(h: Header, card: &[u8], plan: &[u16]) -> Verdict
 // Checks a plan for a ticket. `exact` is demand 2's last sentence, that a plan is called valid exactly when it meets the paper's conditions;
 // that a fault is named as document 01 says: the lowest position at fault, and of its faults the first; and what the peak tells (request 2026-05).
 pub fn check(ticket: &[u8], plan: &[u16]) -> Verdict
-    ensures answer { result ≡ checkOf (parse ticket.now) plan.now }
-    ensures numbers { numbersOf result ≡ numbersOf (checkOf (parse ticket.now) plan.now) }
-    ensures exact { Exact ticket.now plan.now (numbersOf result).verdict (numbersOf result).position.0 (numbersOf result).peak }
+    ensures answer { result ≡ check_of (parse ticket.now) plan.now }
+    ensures numbers { numbers_of result ≡ numbers_of (check_of (parse ticket.now) plan.now) }
+    ensures exact { Exact ticket.now plan.now (numbers_of result).verdict (numbers_of result).position.0 (numbers_of result).peak }
 {
     let mut card = [0u8; limits::FRAMES];
     let answer = ticket::read(ticket, &mut card);

@@ -1,10 +1,10 @@
 // The verdict on a plan: its first fault, or T and the peak.
 ghost use Rattle.std.specs.Prelude.{◌≡◌, true, ◌≤◌, length};
-ghost use Rattle.header.specs.Limits.{maxFrames};
-ghost use Rattle.pool_counts.specs.Pools.{roomyOf, peakOf};
+ghost use Rattle.header.specs.Limits.{max_frames};
+ghost use Rattle.pool_counts.specs.Pools.{roomy_of, peak_of};
 ghost use Rattle.pool_table.specs.Table.{Low};
 ghost use Rattle.plan_faults.specs.Faults.{Checking};
-ghost use Rattle.checker.specs.Check.{answer_of, verdictOn};
+ghost use Rattle.checker.specs.Check.{answer_of, verdict_on};
 ghost use Rattle.checker.specs.Completed.{completed};
 
 use crate::Verdict;
@@ -27,9 +27,9 @@ fn complete(found: Found, top: Cycle, peak: u16) -> Verdict
 
 // The pools of a plan: from a table where no cycle is over 4,096, as in our own plans, and else counted.
 fn pools(save: bool, low: bool, plan: &[u16], top: Cycle, m: u16) -> Room
-    requires { (length plan.now ≤ maxFrames) × (1 ≤ m) × (low ≡ true → Low plan.now top.0) }
-    ensures roomy { result.roomy ≡ roomyOf save m plan.now }
-    ensures peak { result.roomy ≡ length plan.now → result.peak ≡ peakOf save plan.now }
+    requires { (length plan.now ≤ max_frames) × (1 ≤ m) × (low ≡ true → Low plan.now top.0) }
+    ensures roomy { result.roomy ≡ roomy_of save m plan.now }
+    ensures peak { result.roomy ≡ length plan.now → result.peak ≡ peak_of save plan.now }
 {
     if low {
         return pool_table::pools(save, plan, top, m);
@@ -40,7 +40,7 @@ fn pools(save: bool, low: bool, plan: &[u16], top: Cycle, m: u16) -> Room
 // The verdict on any plan.
 pub(crate) fn verdict(save: bool, cards: &[u8], plan: &[u16], m: u16) -> Verdict
     requires { Checking cards.now plan.now × (1 ≤ m) }
-    ensures { result ≡ answer_of (verdictOn save m cards.now plan.now) }
+    ensures { result ≡ answer_of (verdict_on save m cards.now plan.now) }
 {
     let top = schedule::cycles_in(plan);
     let low = top.0 <= limits::MAX_FRAMES;

@@ -14,8 +14,8 @@ sum zero f = 0
 sum (suc n) f = sum n f + f n
 
 -- how many of the numbers below n pass the test
-abbrev pub howMany : ℕ → (ℕ → Bool) → ℕ
-howMany n test = sum n (λ i. bit (test i))
+abbrev pub how_many : ℕ → (ℕ → Bool) → ℕ
+how_many n test = sum n (λ i. bit (test i))
 
 -- the least number below n that passes the test; n where none does
 abbrev pub least : ℕ → (ℕ → Bool) → ℕ

@@ -8,10 +8,10 @@ turned true l = reverse l
 turned false l = l
 
 -- where the element stands that is taken k-th
-abbrev pub takenAt : Bool → ℕ → ℕ → ℕ
-takenAt true n k = n - suc k
-takenAt false n k = k
+abbrev pub taken_at : Bool → ℕ → ℕ → ℕ
+taken_at true n k = n - suc k
+taken_at false n k = k
 
 -- f of the first n elements; the others as they are
-abbrev pub onFirst : (ℕ → ℕ) → ℕ → List ℕ → List ℕ
-onFirst f n l = map f (take n l) ++ drop n l
+abbrev pub on_first : (ℕ → ℕ) → ℕ → List ℕ → List ℕ
+on_first f n l = map f (take n l) ++ drop n l

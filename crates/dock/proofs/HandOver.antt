@@ -10,16 +10,16 @@ use lib.ListN.{length, get_or, set, length-set}
 use lib.Seq.{get_or-set_same, get_or-set_other}
 use borrow.Author.Tests.{le-leb, lt-leb}
 use Rattle.schedule.specs.Dock.{deliver}
-use Rattle.dock.specs.Drive.{heldIn}
+use Rattle.dock.specs.Drive.{held_in}
 use Rattle.dock.specs.Parts.{Freed, HandedOver}
 
 -- n frames are handed over so far; the loop goes on from there
 pub record Handing (from frames : ℕ) (before : List ℕ) (n : ℕ) (now : List ℕ) : Type 0 where
-  pub rest : deliver (heldIn before) (frames - n) n ≡ deliver (heldIn before) (frames - from) from
+  pub rest : deliver (held_in before) (frames - n) n ≡ deliver (held_in before) (frames - from) from
   pub bytes : Freed from n before now
 
-none-freed : (from : ℕ) (memory : List ℕ) → Freed from from memory memory
-none-freed from memory =
+none_freed : (from : ℕ) (memory : List ℕ) → Freed from from memory memory
+none_freed from memory =
     record {
       forward = omega arith;
       freed = λ i g l. absurd (omega arith);
@@ -28,9 +28,9 @@ none-freed from memory =
       same_length = refl;
     }
 
-one-freed : (from n : ℕ) (before now : List ℕ) → Freed from n before now → n < length now
+one_freed : (from n : ℕ) (before now : List ℕ) → Freed from n before now → n < length now
     → Freed from (suc n) before (set now n (get_or now n 0 - 128))
-one-freed from n before now v room =
+one_freed from n before now v room =
     let x : ℕ = get_or now n 0 - 128 in
     record {
       forward = omega (arith, v.forward);
@@ -45,31 +45,31 @@ one-freed from n before now v room =
     }
 
 pub none_yet : (from frames : ℕ) (memory : List ℕ) → Handing from frames memory from memory
-none_yet from frames memory = record { rest = refl; bytes = none-freed from memory }
+none_yet from frames memory = record { rest = refl; bytes = none_freed from memory }
 
 module _ {from frames : ℕ} {before : List ℕ} {n : ℕ} {now : List ℕ} (v : Handing from frames before n now) where
   -- the loop ends with n frames handed over
-  handed : deliver (heldIn before) (frames - n) n ≡ n → HandedOver from frames before n now
+  handed : deliver (held_in before) (frames - n) n ≡ n → HandedOver from frames before n now
   handed e = record { count = sym e ∙ v.rest; bytes = v.bytes }
 
-  pub all-handed : frames ≤ n → HandedOver from frames before n now
-  all-handed l = handed (let e : frames - n ≡ 0 = omega arith in rw e)
+  pub all_handed : frames ≤ n → HandedOver from frames before n now
+  all_handed l = handed (let e : frames - n ≡ 0 = omega arith in rw e)
 
   -- the next frame is not held, or it is
   module _ (l : n < frames) where
     more : frames - n ≡ suc (frames - suc n)
     more = omega arith
 
-    pub next-not-held : get_or now n 0 < 128 → HandedOver from frames before n now
-    next-not-held g =
+    pub next_not_held : get_or now n 0 < 128 → HandedOver from frames before n now
+    next_not_held g =
         let b : get_or before n 0 < 128 = omega (arith, v.bytes.later n (omega arith)) in
         handed (rw (more, lt-leb 128 (get_or before n 0) b))
 
-    pub next-held : n < length now → 128 ≤ get_or now n 0 → Handing from frames before (n + 1) (set now n (get_or now n 0 - 128))
-    next-held room g =
+    pub next_held : n < length now → 128 ≤ get_or now n 0 → Handing from frames before (n + 1) (set now n (get_or now n 0 - 128))
+    next_held room g =
         let b : 128 ≤ get_or before n 0 = omega (arith, v.bytes.later n (omega arith)) in
         rw add-one
         (record {
           rest = rw (more, le-leb 128 (get_or before n 0) b) at v.rest;
-          bytes = one-freed from n before now v.bytes room;
+          bytes = one_freed from n before now v.bytes room;
         })

@@ -7,36 +7,36 @@
 -- Assumes nothing.
 use Rattle.std.specs.Prelude.{ℕ, ◌+◌, ◌-◌, ◌%◌, ◌≡◌, Bool, false, not, ◌&&◌, ◌||◌, cond, List, [], ◌∷◌, ◌++◌, leb, ltb, length, get_or, set}
 use Rattle.counting.specs.Count.{tabulate}
-use Rattle.schedule.specs.Dock.{emptyDock, deliver, Step as ModelStep, Dock as ModelDock}
+use Rattle.schedule.specs.Dock.{empty_dock, deliver, Step as ModelStep, Dock as ModelDock}
 use Rattle.schedule.specs.Dock as model
 use Rattle.dock.specs.State.{step_of, ShowsDock}
-use Rattle.dock.specs.Records.{brokenOff, turnUsed, nowHolding, cycleEnded}
+use Rattle.dock.specs.Records.{broken_off, turn_used, now_holding, cycle_ended}
 use Rattle.dock.specs.declared.Dock.{Dock}
 use Rattle.dock.specs.declared.Step.{Step}
 use Rattle.dock.specs.declared.Step.TheVariants.{Read, Drop, End}
 use Rattle.dock.specs.declared.Driven.{Driven as Answer}
 
 -- the card in a frame's byte, and whether the frame is held
-abbrev pub cardIn : ℕ → ℕ
-cardIn b = b % 32
+abbrev pub card_in : ℕ → ℕ
+card_in b = b % 32
 
 abbrev pub is_held : ℕ → Bool
 is_held b = leb 128 b
 
-abbrev pub heldIn : List ℕ → ℕ → Bool
-heldIn memory i = is_held (get_or memory i 0)
+abbrev pub held_in : List ℕ → ℕ → Bool
+held_in memory i = is_held (get_or memory i 0)
 
 -- "A frame neither held nor handed over takes a buffer": frame i, whose byte is b
-abbrev pub takesBuffer : Dock → ℕ → ℕ → Bool
-takesBuffer dock i b = not (is_held b) && (leb dock.delivered i && ltb dock.holding dock.frames)
+abbrev pub takes_buffer : Dock → ℕ → ℕ → Bool
+takes_buffer dock i b = not (is_held b) && (leb dock.delivered i && ltb dock.holding dock.frames)
 
 -- "a held frame is no longer held; for any other frame nothing changes"
-abbrev pub freesBuffer : Dock → ℕ → Bool
-freesBuffer dock b = is_held b && ltb 0 dock.holding
+abbrev pub frees_buffer : Dock → ℕ → Bool
+frees_buffer dock b = is_held b && ltb 0 dock.holding
 
 -- "while the next frame of the list is held, it is handed over": how many are handed over then
-abbrev pub handedOver : Dock → List ℕ → ℕ
-handedOver dock memory = deliver (heldIn memory) (dock.frames - dock.delivered) dock.delivered
+abbrev pub handed_over : Dock → List ℕ → ℕ
+handed_over dock memory = deliver (held_in memory) (dock.frames - dock.delivered) dock.delivered
 
 -- the bytes of the frames from `from` to n, each 128 less; the others as they are
 abbrev pub freed : ℕ → ℕ → List ℕ → List ℕ
@@ -45,47 +45,47 @@ freed from n memory = tabulate (length memory) (λ i. get_or memory i 0 - cond (
 module _ (dock : Dock) (memory : List ℕ) where
   -- "against the rules if its card has read in this cycle"; "after any read in this cycle"; "if more than m frames are held". A position not
   -- below L is against the rules too.
-  abbrev pub againstRules : Step → Bool
-  againstRules (Read p) = leb dock.frames p.0 || get_or dock.busy (cardIn (get_or memory p.0 0)) false
-  againstRules (Drop p) = leb dock.frames p.0 || dock.reading
-  againstRules End = ltb dock.pool dock.holding
+  abbrev pub against_rules : Step → Bool
+  against_rules (Read p) = leb dock.frames p.0 || get_or dock.busy (card_in (get_or memory p.0 0)) false
+  against_rules (Drop p) = leb dock.frames p.0 || dock.reading
+  against_rules End = ltb dock.pool dock.holding
 
   -- what a step within the rules makes of the record
-  abbrev pub recordMade : Step → Dock
-  recordMade (Read p) =
+  abbrev pub record_made : Step → Dock
+  record_made (Read p) =
       let b : ℕ = get_or memory p.0 0 in
-      turnUsed dock (cardIn b) (cond (takesBuffer dock p.0 b) (dock.holding + 1) dock.holding)
-  recordMade (Drop p) = cond (freesBuffer dock (get_or memory p.0 0)) (nowHolding dock (dock.holding - 1)) dock
-  recordMade End = cycleEnded dock (handedOver dock memory)
+      turn_used dock (card_in b) (cond (takes_buffer dock p.0 b) (dock.holding + 1) dock.holding)
+  record_made (Drop p) = cond (frees_buffer dock (get_or memory p.0 0)) (now_holding dock (dock.holding - 1)) dock
+  record_made End = cycle_ended dock (handed_over dock memory)
 
   -- and of the bytes
-  abbrev pub bytesMade : Step → List ℕ
-  bytesMade (Read p) =
+  abbrev pub bytes_made : Step → List ℕ
+  bytes_made (Read p) =
       let b : ℕ = get_or memory p.0 0 in
-      cond (takesBuffer dock p.0 b) (set memory p.0 (b + 128)) memory
-  bytesMade (Drop p) =
+      cond (takes_buffer dock p.0 b) (set memory p.0 (b + 128)) memory
+  bytes_made (Drop p) =
       let b : ℕ = get_or memory p.0 0 in
-      cond (freesBuffer dock b) (set memory p.0 (b - 128)) memory
-  bytesMade End = freed dock.delivered (handedOver dock memory) memory
+      cond (frees_buffer dock b) (set memory p.0 (b - 128)) memory
+  bytes_made End = freed dock.delivered (handed_over dock memory) memory
 
   -- "A step against the rules breaks the list of steps off: beyond that, neither it nor any later step changes anything."
-  unfoldable pub recordAfter : Step → Dock
-  recordAfter step = cond dock.broken dock (cond (againstRules step) (brokenOff dock) (recordMade step))
+  unfoldable pub record_after : Step → Dock
+  record_after step = cond dock.broken dock (cond (against_rules step) (broken_off dock) (record_made step))
 
-  unfoldable pub bytesAfter : Step → List ℕ
-  bytesAfter step = cond (dock.broken || againstRules step) memory (bytesMade step)
+  unfoldable pub bytes_after : Step → List ℕ
+  bytes_after step = cond (dock.broken || against_rules step) memory (bytes_made step)
 
   -- lent memory has fewer than L places
-  abbrev pub tooShort : Bool
-  tooShort = ltb (length memory) dock.frames
+  abbrev pub too_short : Bool
+  too_short = ltb (length memory) dock.frames
 
   -- What `drive` answers: 10 and the record as it was where lent memory has fewer than L places, else the record after the step.
-  unfoldable pub driveOf : Step → Answer
-  driveOf step = cond tooShort (record { refusal = 10; dock = dock }) (record { refusal = 0; dock = recordAfter step })
+  unfoldable pub drive_of : Step → Answer
+  drive_of step = cond too_short (record { refusal = 10; dock = dock }) (record { refusal = 0; dock = record_after step })
 
   -- The memory after `drive`; a refusal changes nothing.
-  unfoldable pub memoryDriven : Step → List ℕ
-  memoryDriven step = cond tooShort memory (bytesAfter step)
+  unfoldable pub memory_driven : Step → List ℕ
+  memory_driven step = cond too_short memory (bytes_after step)
 
 -- One call of `drive` follows the model: whichever dock of the model the record and the memory show, the model's step of it is shown afterwards.
 pub record Follows (dock : Dock) (step : Step) (before : List ℕ) (r : Answer) (after : List ℕ) : Type 0 where
@@ -95,7 +95,7 @@ pub record Follows (dock : Dock) (step : Step) (before : List ℕ) (r : Answer) 
 
 -- Calls of `drive` one after the other, from a dock and memory that show the empty dock: the steps so far, and the dock and the memory now.
 pub data Driving (m : ℕ) (cards : List ℕ) : List ModelStep → Dock → List ℕ → Type 0 where
-  begin : (dock : Dock) (memory : List ℕ) → ShowsDock m cards emptyDock dock memory → Driving m cards [] dock memory
+  begin : (dock : Dock) (memory : List ℕ) → ShowsDock m cards empty_dock dock memory → Driving m cards [] dock memory
   next :
       (steps : List ModelStep) (dock : Dock) (memory : List ℕ) (a : Step) → Driving m cards steps dock memory
-      → Driving m cards (steps ++ (step_of a ∷ [])) (driveOf dock memory a).dock (memoryDriven dock memory a)
+      → Driving m cards (steps ++ (step_of a ∷ [])) (drive_of dock memory a).dock (memory_driven dock memory a)

@@ -2,7 +2,7 @@
 -- Assumes nothing.
 use Rattle.std.specs.Prelude.{ℕ, ◌-◌, ◌≤◌, ◌<◌, ◌≡◌, List, length, get_or}
 use Rattle.schedule.specs.Dock.{deliver}
-use Rattle.dock.specs.Drive.{heldIn, recordAfter, bytesAfter}
+use Rattle.dock.specs.Drive.{held_in, record_after, bytes_after}
 use Rattle.dock.specs.declared.Dock.{Dock}
 use Rattle.dock.specs.declared.Step.{Step}
 
@@ -16,11 +16,11 @@ pub record Freed (from n : ℕ) (before after : List ℕ) : Type 0 where
 
 -- Of `frames` frames `from` are handed over before the end of a cycle, and n after it.
 pub record HandedOver (from frames : ℕ) (before : List ℕ) (n : ℕ) (after : List ℕ) : Type 0 where
-  pub count : n ≡ deliver (heldIn before) (frames - from) from
+  pub count : n ≡ deliver (held_in before) (frames - from) from
   pub bytes : Freed from n before after
 
 -- One step.
 pub record Advanced (dock : Dock) (step : Step) (before : List ℕ) (r : Dock) (after : List ℕ) : Type 0 where
-  pub dock-is : r ≡ recordAfter dock before step
-  pub memory-is : after ≡ bytesAfter dock before step
+  pub dock_is : r ≡ record_after dock before step
+  pub memory_is : after ≡ bytes_after dock before step
   pub same_length : length after ≡ length before

@@ -1,7 +1,7 @@
 // The dock of document 01 as code, driven one step at a time. crates/dock_start starts it for a ticket's list.
 ghost use Rattle.std.specs.Prelude.{◌≡◌};
-ghost use Rattle.dock.specs.State.{newDock};
-ghost use Rattle.dock.specs.Drive.{driveOf, memoryDriven, Follows};
+ghost use Rattle.dock.specs.State.{new_dock};
+ghost use Rattle.dock.specs.Drive.{drive_of, memory_driven, Follows};
 
 mod steps;
 
@@ -39,7 +39,7 @@ pub struct Driven {
 
 // An empty dock for a list of so many frames.
 pub fn empty(pool: u16, frames: u16) -> Dock
-    ensures { result ≡ newDock pool frames }
+    ensures { result ≡ new_dock pool frames }
 {
     Dock {
         frames: frames,
@@ -55,8 +55,8 @@ pub fn empty(pool: u16, frames: u16) -> Dock
 
 // One step of the dock. `answer` and `memory` say the whole outcome for every record, step and memory; `follows`, that it is the model's step.
 pub fn drive(dock: Dock, step: Step, memory: &mut [u8]) -> Driven
-    ensures answer { result ≡ driveOf dock memory.old step }
-    ensures memory { memory.new ≡ memoryDriven dock memory.old step }
+    ensures answer { result ≡ drive_of dock memory.old step }
+    ensures memory { memory.new ≡ memory_driven dock memory.old step }
     ensures follows { Follows dock step memory.old result memory.new }
 {
     let frames = dock.frames as usize;

@@ -1,9 +1,9 @@
 // The three kinds of step, on a dock whose memory has a place for each frame.
 // A frame's byte is its card, which is below 32, and 128 more while the frame is held.
 ghost use Rattle.std.specs.Prelude.{◌≡◌, false, ◌+◌, ◌-◌, ◌≤◌, min, length};
-ghost use Rattle.dock.specs.State.{mostCycles};
-ghost use Rattle.dock.specs.Records.{brokenOff};
-ghost use Rattle.dock.specs.Drive.{cardIn, takesBuffer};
+ghost use Rattle.dock.specs.State.{most_cycles};
+ghost use Rattle.dock.specs.Records.{broken_off};
+ghost use Rattle.dock.specs.Drive.{card_in, takes_buffer};
 ghost use Rattle.dock.specs.Parts.{Advanced, HandedOver};
 
 use crate::{Dock, Step};
@@ -12,14 +12,14 @@ use header::limits;
 
 // The card in a frame's byte.
 fn card_in(b: u8) -> usize
-    ensures { result ≡ cardIn b }
+    ensures { result ≡ card_in b }
 {
     (b % 32) as usize
 }
 
 // A step against the rules: nothing but this changes, now and later.
 fn break_off(dock: Dock) -> Dock
-    ensures { result ≡ brokenOff dock }
+    ensures { result ≡ broken_off dock }
 {
     let mut d = dock;
     d.broken = true;
@@ -29,7 +29,7 @@ fn break_off(dock: Dock) -> Dock
 // Whether a read of the frame at p, whose byte is b, takes a buffer: it is neither held nor handed over. Where a frame is not held, fewer
 // than all are; this is asked too, so that the count stays in its range whatever is handed in.
 fn takes_buffer(dock: Dock, p: Position, b: u8) -> bool
-    ensures { result ≡ takesBuffer dock p.0 b }
+    ensures { result ≡ takes_buffer dock p.0 b }
 {
     if 128 <= b {
         return false;
@@ -119,7 +119,7 @@ fn less(x: u16, y: u16) -> u16
 
 // One more cycle, up to the most that are counted.
 fn one_more(ended: u32) -> u32
-    ensures { result ≡ min (ended + 1) mostCycles }
+    ensures { result ≡ min (ended + 1) most_cycles }
 {
     if ended == 4294967295 {
         ended

@@ -2,15 +2,15 @@
 ghost use Rattle.std.specs.Prelude.{◌≡◌, ◌++◌, ◌≤◌, length, take, drop};
 ghost use Rattle.ticket.specs.Ticket.{accepted, parse};
 ghost use Rattle.ticket.specs.Grounds.{Fits};
-ghost use Rattle.dock.specs.State.{newDock};
-ghost use Rattle.dock_start.specs.Start.{start_of, memoryStarted};
+ghost use Rattle.dock.specs.State.{new_dock};
+ghost use Rattle.dock_start.specs.Start.{start_of, memory_started};
 
 use dock::Driven;
 use header::{Header, limits};
 
 // A refusal, beside a dock of zeros.
 fn refused(number: u8) -> Driven
-    ensures { result ≡ record { refusal = number; dock = newDock 0 0 } }
+    ensures { result ≡ record { refusal = number; dock = new_dock 0 0 } }
 {
     Driven {
         refusal: number,
@@ -35,7 +35,7 @@ fn copy_cards(cards: &[u8], memory: &mut [u8])
 fn start_list(h: Header, card: &[u8], memory: &mut [u8]) -> Driven
     requires { Fits h (take h.frames card.now) }
     ensures answer { result ≡ start_of (accepted h (take h.frames card.now)) (length memory.old) }
-    ensures memory { memory.new ≡ memoryStarted (accepted h (take h.frames card.now)) memory.old }
+    ensures memory { memory.new ≡ memory_started (accepted h (take h.frames card.now)) memory.old }
 {
     let n = h.frames as usize;
     if memory.len() < n {
@@ -51,7 +51,7 @@ fn start_list(h: Header, card: &[u8], memory: &mut [u8]) -> Driven
 // An empty dock for the list and the pool of a ticket; memory gets a byte for each frame.
 pub fn start(ticket: &[u8], memory: &mut [u8]) -> Driven
     ensures answer { result ≡ start_of (parse ticket.now) (length memory.old) }
-    ensures memory { memory.new ≡ memoryStarted (parse ticket.now) memory.old }
+    ensures memory { memory.new ≡ memory_started (parse ticket.now) memory.old }
 {
     let mut card = [0u8; limits::FRAMES];
     let answer = ticket::read(ticket, &mut card);

@@ -5,47 +5,47 @@ use Prim.Native.Nat.{ℕ}
 use mathlib.Core.Path.{◌≡◌, refl, sym, ◌∙◌}
 use mathlib.Core.Bool.{false}
 use mathlib.Core.List.{List, map}
-use Rattle.text.specs.UpperCase.{upperCase}
+use Rattle.text.specs.UpperCase.{upper_case}
 use Rattle.header.specs.declared.Header.{Header}
-use Rattle.ticket.specs.Print.{asEdition1, withoutSeconds}
-use Rattle.ticket.specs.Seconds.{secondsOf}
+use Rattle.ticket.specs.Print.{as_edition1, without_seconds}
+use Rattle.ticket.specs.Seconds.{seconds_of}
 use Rattle.ticket.specs.Ticket.{accepted, parse}
 use Rattle.ticket.proofs.Main as ticket
-use Rattle.firmware.specs.Calls.{Call, withTicket, tellsEdition, result_of}
+use Rattle.firmware.specs.Calls.{Call, with_ticket, tells_edition, result_of}
 use Rattle.firmware.specs.Cases.{Case, call, expected, cases}
 use Rattle.firmware.proofs.Cases as table
 use Rattle.firmware.proofs.Values as values
 
 -- Every refusal of document 01, and answers that are no refusal, in plain numbers: what the calls answer is what the table says.
-pub cases-hold : map (λ (x : Case). result_of (call x)) cases ≡ map expected cases
-cases-hold = table.cases-hold
+pub cases_hold : map (λ (x : Case). result_of (call x)) cases ≡ map expected cases
+cases_hold = table.cases_hold
 
 -- "a plan depends on the values alone": two texts that are accepted with the same values, the seconds among them, whatever the case of their
 -- digits, get the same answer from every call that takes a ticket, and leave the same in lent memory; so do both tickets of a join. A line is
 -- handed back as a place of the caller's ticket, and what stands there are the caller's own bytes.
-pub values-alone :
-    (s t : List ℕ) (h : Header) (cards : List ℕ) → parse s ≡ accepted h cards → parse t ≡ accepted h cards → secondsOf s ≡ secondsOf t
-    → (c : Call) → result_of (withTicket s c) ≡ result_of (withTicket t c)
-values-alone s t h cards e f x = values.alike s t (e ∙ sym f) x
+pub values_alone :
+    (s t : List ℕ) (h : Header) (cards : List ℕ) → parse s ≡ accepted h cards → parse t ≡ accepted h cards → seconds_of s ≡ seconds_of t
+    → (c : Call) → result_of (with_ticket s c) ≡ result_of (with_ticket t c)
+values_alone s t h cards e f x = values.alike s t (e ∙ sym f) x
 
 -- "The second has no say in the plan": two accepted tickets with the same mode, cards, pool and list, of whatever editions, get the same plan,
 -- printed text, verdict, run, counts and dock, and leave the same in lent memory. Only `parse`, `line` and a join tell the edition.
-pub second-no-say :
+pub second_no_say :
     (s t : List ℕ) (g h : Header) (cards : List ℕ) → parse s ≡ accepted g cards → parse t ≡ accepted h cards
     → g.mode ≡ h.mode → g.cards ≡ h.cards → g.pool ≡ h.pool
-    → (c : Call) → tellsEdition c ≡ false → result_of (withTicket s c) ≡ result_of (withTicket t c)
-second-no-say = values.no-say
+    → (c : Call) → tells_edition c ≡ false → result_of (with_ticket s c) ≡ result_of (with_ticket t c)
+second_no_say = values.no_say
 
 -- In particular an accepted ticket and the edition 01 ticket of its mode, cards, pool and list, which is accepted too.
-pub edition-1-twin :
+pub edition_1_twin :
     (t : List ℕ) (h : Header) (cards : List ℕ) → parse t ≡ accepted h cards
-    → (parse (withoutSeconds h cards) ≡ accepted (asEdition1 h) cards)
-    × ((c : Call) → tellsEdition c ≡ false → result_of (withTicket t c) ≡ result_of (withTicket (withoutSeconds h cards) c))
-edition-1-twin t h cards e =
-    let fits = values.fits-first h cards (ticket.accepted-fits t h cards e) in
-    let twin = ticket.written-edition-1 (asEdition1 h) cards refl fits in
-    (twin, values.no-say t (withoutSeconds h cards) h (asEdition1 h) cards e twin refl refl refl)
+    → (parse (without_seconds h cards) ≡ accepted (as_edition1 h) cards)
+    × ((c : Call) → tells_edition c ≡ false → result_of (with_ticket t c) ≡ result_of (with_ticket (without_seconds h cards) c))
+edition_1_twin t h cards e =
+    let fits = values.fits_first h cards (ticket.accepted_fits t h cards e) in
+    let twin = ticket.written_edition_1 (as_edition1 h) cards refl fits in
+    (twin, values.no_say t (without_seconds h cards) h (as_edition1 h) cards e twin refl refl refl)
 
 -- And so do two texts, accepted or not, that differ in the case of their digits alone.
-pub case-alone : (s t : List ℕ) → upperCase s ≡ upperCase t → (c : Call) → result_of (withTicket s c) ≡ result_of (withTicket t c)
-case-alone s t e = values.alike s t (ticket.case-alone s t e).0 (ticket.case-alone s t e).1
+pub case_alone : (s t : List ℕ) → upper_case s ≡ upper_case t → (c : Call) → result_of (with_ticket s c) ≡ result_of (with_ticket t c)
+case_alone s t e = values.alike s t (ticket.case_alone s t e).0 (ticket.case_alone s t e).1

@@ -9,46 +9,46 @@ use mathlib.Core.Logic.{inl}
 use native.Mathlib.Decide.{ℕ_discrete}
 use lib.ListN.{length}
 use Rattle.ticket.specs.Grounds.{Fits}
-use Rattle.ticket.specs.Print.{asEdition1}
-use Rattle.ticket.specs.Seconds.{secondsOf}
-use Rattle.ticket.specs.Ticket.{Parsed, accepted, parse, lineRefusalOf, line_of, linePlace}
+use Rattle.ticket.specs.Print.{as_edition1}
+use Rattle.ticket.specs.Seconds.{seconds_of}
+use Rattle.ticket.specs.Ticket.{Parsed, accepted, parse, line_refusal_of, line_of, line_place}
 use Rattle.ticket.proofs.Accepted.{as_many}
-use Rattle.planner.specs.Plan.{plan_of, bufferAfter}
+use Rattle.planner.specs.Plan.{plan_of, buffer_after}
 use Rattle.join.specs.Join.{join_of}
-use Rattle.checker.specs.Check.{checkOf}
-use Rattle.plan_run.specs.Run.{ranOf}
+use Rattle.checker.specs.Check.{check_of}
+use Rattle.plan_run.specs.Run.{ran_of}
 use Rattle.printing.specs.Printed.{text_of}
-use Rattle.dock_start.specs.Start.{start_of, memoryStarted}
-use Rattle.header.specs.Editions.{lineDigits, lineBytes}
-use Rattle.header.specs.Heading.{headerBytes}
+use Rattle.dock_start.specs.Start.{start_of, memory_started}
+use Rattle.header.specs.Editions.{line_digits, line_bytes}
+use Rattle.header.specs.Heading.{header_bytes}
 use Rattle.header.specs.declared.Header.{Header}
-use Rattle.ticket.proofs.Answers.{no_line, no_place, its-place, line-length, same-edition}
-use Rattle.firmware.specs.Calls.{Call, parseTicket, planTicket, printPlan, joinFirst, joinSecond, gather, checkPlan, runPlan, line, counts}
-use Rattle.firmware.specs.Calls.{newSaver, save, close, startDock, driveDock, withTicket, tellsEdition, result_of}
+use Rattle.ticket.proofs.Answers.{no_line, no_place, its_place, line_length, same_edition}
+use Rattle.firmware.specs.Calls.{Call, parse_ticket, plan_ticket, print_plan, join_first, join_second, gather, check_plan, run_plan, line, counts}
+use Rattle.firmware.specs.Calls.{new_saver, save, close, start_dock, drive_dock, with_ticket, tells_edition, result_of}
 
-module _ (s t : List ℕ) (e : parse s ≡ parse t) (x : secondsOf s ≡ secondsOf t) where
-  number-alike : (p : ℕ) → lineRefusalOf (parse s) p ≡ lineRefusalOf (parse t) p
-  number-alike p = ap (λ (x : Parsed). lineRefusalOf x p) e
+module _ (s t : List ℕ) (e : parse s ≡ parse t) (x : seconds_of s ≡ seconds_of t) where
+  number_alike : (p : ℕ) → line_refusal_of (parse s) p ≡ line_refusal_of (parse t) p
+  number_alike p = ap (λ (x : Parsed). line_refusal_of x p) e
 
   -- a line has the same place and length, whichever the bytes
-  place-alike : (p : ℕ) → linePlace s p ≡ linePlace t p
-  place-alike p =
-      elim (ℕ_discrete (lineRefusalOf (parse t) p) 0) [
+  place_alike : (p : ℕ) → line_place s p ≡ line_place t p
+  place_alike p =
+      elim (ℕ_discrete (line_refusal_of (parse t) p) 0) [
         | yes z ↦
-            sym (its-place s p (sym (number-alike p ∙ z)))
-            ∙ ap (λ (k : ℕ). headerBytes + lineBytes k * p) (same-edition s t p e (sym z))
-            ∙ its-place t p (sym z)
-        | no n ↦ sym (no_place s p (sym (number-alike p)) n) ∙ no_place t p refl n
+            sym (its_place s p (sym (number_alike p ∙ z)))
+            ∙ ap (λ (k : ℕ). header_bytes + line_bytes k * p) (same_edition s t p e (sym z))
+            ∙ its_place t p (sym z)
+        | no n ↦ sym (no_place s p (sym (number_alike p)) n) ∙ no_place t p refl n
       ]
 
-  length-alike : (p : ℕ) → length (line_of s p) ≡ length (line_of t p)
-  length-alike p =
-      elim (ℕ_discrete (lineRefusalOf (parse t) p) 0) [
+  length_alike : (p : ℕ) → length (line_of s p) ≡ length (line_of t p)
+  length_alike p =
+      elim (ℕ_discrete (line_refusal_of (parse t) p) 0) [
         | yes z ↦
-            line-length s p (sym (number-alike p ∙ z))
-            ∙ ap lineDigits (same-edition s t p e (sym z))
-            ∙ sym (line-length t p (sym z))
-        | no n ↦ ap length (sym (no_line s p (sym (number-alike p)) n) ∙ no_line t p refl n)
+            line_length s p (sym (number_alike p ∙ z))
+            ∙ ap line_digits (same_edition s t p e (sym z))
+            ∙ sym (line_length t p (sym z))
+        | no n ↦ ap length (sym (no_line s p (sym (number_alike p)) n) ∙ no_line t p refl n)
       ]
 
   -- a join, with the ticket as its first one or as its second
@@ -60,22 +60,22 @@ module _ (s t : List ℕ) (e : parse s ≡ parse t) (x : secondsOf s ≡ seconds
   unfolding join_of
   second_alike other = rw (e, x)
 
-  pub alike : (c : Call) → result_of (withTicket s c) ≡ result_of (withTicket t c)
-  alike (parseTicket _) = rw e
-  alike (planTicket _ buffer) = rw e
-  alike (printPlan _ buffer) = rw e
-  alike (joinFirst _ other buffer) = rw (first_alike other)
-  alike (joinSecond _ other buffer) = rw (second_alike other)
+  pub alike : (c : Call) → result_of (with_ticket s c) ≡ result_of (with_ticket t c)
+  alike (parse_ticket _) = rw e
+  alike (plan_ticket _ buffer) = rw e
+  alike (print_plan _ buffer) = rw e
+  alike (join_first _ other buffer) = rw (first_alike other)
+  alike (join_second _ other buffer) = rw (second_alike other)
   alike (gather chosen cameras buffer) = refl
-  alike (checkPlan _ cycles) = rw e
-  alike (runPlan _ cycles) = rw e
-  alike (line _ p) = rw (e, place-alike p, length-alike p)
+  alike (check_plan _ cycles) = rw e
+  alike (run_plan _ cycles) = rw e
+  alike (line _ p) = rw (e, place_alike p, length_alike p)
   alike (counts _) = rw e
-  alike (newSaver cards pool) = refl
+  alike (new_saver cards pool) = refl
   alike (save saver card) = refl
   alike (close saver) = refl
-  alike (startDock _ memory) = rw e
-  alike (driveDock d memory step) = refl
+  alike (start_dock _ memory) = rw e
+  alike (drive_dock d memory step) = refl
 
 -- accepted tickets with the same mode, cards, pool and list, whatever their editions
 module _
@@ -84,36 +84,36 @@ module _
   frames : g.frames ≡ h.frames
   frames = sym (as_many s g cards e) ∙ as_many t h cards f
 
-  but-edition : g ≡ record { edition = g.edition; mode = h.mode; cards = h.cards; pool = h.pool; frames = h.frames }
-  but-edition = rw (← mode, ← range, ← pool, ← frames)
+  but_edition : g ≡ record { edition = g.edition; mode = h.mode; cards = h.cards; pool = h.pool; frames = h.frames }
+  but_edition = rw (← mode, ← range, ← pool, ← frames)
 
-  pub no-say : (c : Call) → tellsEdition c ≡ false → result_of (withTicket s c) ≡ result_of (withTicket t c)
-  unfolding plan_of bufferAfter checkOf ranOf text_of start_of memoryStarted
-  no-say (parseTicket _) q = absurd (true≢false q)
-  no-say (planTicket _ buffer) q = rw (e, f, but-edition)
-  no-say (printPlan _ buffer) q = rw (e, f, but-edition)
-  no-say (joinFirst _ other buffer) q = absurd (true≢false q)
-  no-say (joinSecond _ other buffer) q = absurd (true≢false q)
-  no-say (gather chosen cameras buffer) q = refl
-  no-say (checkPlan _ cycles) q = rw (e, f, but-edition)
-  no-say (runPlan _ cycles) q = rw (e, f, but-edition)
-  no-say (line _ p) q = absurd (true≢false q)
-  no-say (counts _) q = rw (e, f)
-  no-say (newSaver cards pool) q = refl
-  no-say (save saver card) q = refl
-  no-say (close saver) q = refl
-  no-say (startDock _ memory) q = rw (e, f, but-edition)
-  no-say (driveDock d memory step) q = refl
+  pub no_say : (c : Call) → tells_edition c ≡ false → result_of (with_ticket s c) ≡ result_of (with_ticket t c)
+  unfolding plan_of buffer_after check_of ran_of text_of start_of memory_started
+  no_say (parse_ticket _) q = absurd (true≢false q)
+  no_say (plan_ticket _ buffer) q = rw (e, f, but_edition)
+  no_say (print_plan _ buffer) q = rw (e, f, but_edition)
+  no_say (join_first _ other buffer) q = absurd (true≢false q)
+  no_say (join_second _ other buffer) q = absurd (true≢false q)
+  no_say (gather chosen cameras buffer) q = refl
+  no_say (check_plan _ cycles) q = rw (e, f, but_edition)
+  no_say (run_plan _ cycles) q = rw (e, f, but_edition)
+  no_say (line _ p) q = absurd (true≢false q)
+  no_say (counts _) q = rw (e, f)
+  no_say (new_saver cards pool) q = refl
+  no_say (save saver card) q = refl
+  no_say (close saver) q = refl
+  no_say (start_dock _ memory) q = rw (e, f, but_edition)
+  no_say (drive_dock d memory step) q = refl
 
 -- the same list as an edition 01 ticket fits too
-pub fits-first : (h : Header) (cards : List ℕ) → Fits h cards → Fits (asEdition1 h) cards
-fits-first h cards f =
+pub fits_first : (h : Header) (cards : List ℕ) → Fits h cards → Fits (as_edition1 h) cards
+fits_first h cards f =
     record {
       edition = inl refl;
       mode = f.mode;
-      card-range = f.card-range;
+      card_range = f.card_range;
       pool = f.pool;
       frames = f.frames;
       few = f.few;
-      each-card = f.each-card;
+      each_card = f.each_card;
     }

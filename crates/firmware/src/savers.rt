@@ -1,13 +1,13 @@
 // The saver's calls. The record goes in by value and the new one comes back; the one premise is that a call gave it.
 ghost use Rattle.std.specs.Prelude.{◌≡◌};
-ghost use Rattle.saver.specs.Calls.{newOf, saveOf, closeOf, Given};
+ghost use Rattle.saver.specs.Calls.{new_of, save_of, close_of, Given};
 ghost use Rattle.saver.specs.Follows.{SaveFollows, CloseFollows};
 
 use saver::{Answer, Saver};
 
 #[unsafe(no_mangle)]
 pub extern "C" fn dockplan_saver_new(cards: u8, pool: u16) -> Answer
-    ensures answer { result ≡ newOf cards pool }
+    ensures answer { result ≡ new_of cards pool }
     ensures given { Given result.saver }
 {
     Saver::new(cards, pool)
@@ -16,7 +16,7 @@ pub extern "C" fn dockplan_saver_new(cards: u8, pool: u16) -> Answer
 #[unsafe(no_mangle)]
 pub extern "C" fn dockplan_saver_save(saver: Saver, card: u8) -> Answer
     requires { Given saver }
-    ensures answer { result ≡ saveOf saver card }
+    ensures answer { result ≡ save_of saver card }
     ensures given { Given result.saver }
     ensures greedy { SaveFollows saver card result }
 {
@@ -26,7 +26,7 @@ pub extern "C" fn dockplan_saver_save(saver: Saver, card: u8) -> Answer
 #[unsafe(no_mangle)]
 pub extern "C" fn dockplan_saver_close(saver: Saver) -> Answer
     requires { Given saver }
-    ensures answer { result ≡ closeOf saver }
+    ensures answer { result ≡ close_of saver }
     ensures given { Given result.saver }
     ensures greedy { CloseFollows saver result }
 {

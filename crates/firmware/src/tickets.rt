@@ -1,7 +1,7 @@
 // What a ticket says: its header, the line at a position, and the frames of each card.
 ghost use Rattle.std.specs.Prelude.{◌≡◌, take, drop};
-ghost use Rattle.ticket.specs.Ticket.{parse, numbersIn, lineRefusalOf, line_of};
-ghost use Rattle.plain_answers.specs.Answers.{ticketAnswer, linePart, countsAnswer};
+ghost use Rattle.ticket.specs.Ticket.{parse, numbers_in, line_refusal_of, line_of};
+ghost use Rattle.plain_answers.specs.Answers.{ticket_answer, line_part, counts_answer};
 
 use counting::Position;
 use header::limits;
@@ -10,7 +10,7 @@ use plain_answers::tickets::{CountsAnswer, Part, TicketAnswer, ticket_answer};
 // Reads the whole ticket, its lines too.
 #[unsafe(no_mangle)]
 pub extern "C" fn dockplan_parse(ticket: &[u8]) -> TicketAnswer
-    ensures { result ≡ ticketAnswer (numbersIn (parse ticket.now)) }
+    ensures { result ≡ ticket_answer (numbers_in (parse ticket.now)) }
 {
     let mut card = [0u8; limits::FRAMES];
     ticket_answer(ticket::read(ticket, &mut card))
@@ -18,7 +18,7 @@ pub extern "C" fn dockplan_parse(ticket: &[u8]) -> TicketAnswer
 
 #[unsafe(no_mangle)]
 pub extern "C" fn dockplan_line(ticket: &[u8], p: Position) -> Part
-    ensures part { result ≡ linePart ticket.now p.0 }
+    ensures part { result ≡ line_part ticket.now p.0 }
     ensures line { take result.length (drop result.offset ticket.now) ≡ line_of ticket.now p.0 }
 {
     let line = ticket::line(ticket, p);
@@ -38,14 +38,14 @@ pub extern "C" fn dockplan_line(ticket: &[u8], p: Position) -> Part
 // The number that goes with the line.
 #[unsafe(no_mangle)]
 pub extern "C" fn dockplan_line_refusal(ticket: &[u8], p: Position) -> u8
-    ensures { result ≡ lineRefusalOf (parse ticket.now) p.0 }
+    ensures { result ≡ line_refusal_of (parse ticket.now) p.0 }
 {
     ticket::line_refusal(ticket, p)
 }
 
 #[unsafe(no_mangle)]
 pub extern "C" fn dockplan_counts(ticket: &[u8]) -> CountsAnswer
-    ensures { result ≡ countsAnswer (parse ticket.now) }
+    ensures { result ≡ counts_answer (parse ticket.now) }
 {
     let number = ticket::refusal(ticket);
     let frames = ticket::counts(ticket);

@@ -3,8 +3,8 @@
 use Rattle.std.specs.Prelude.{ℕ, List}
 use Rattle.counting.specs.Count.{tabulate}
 use Rattle.counting.specs.Frames.{load}
-use Rattle.header.specs.Limits.{maxCards}
+use Rattle.header.specs.Limits.{max_cards}
 
 -- for each of the 32 cards, how many of the first n frames it has
-abbrev pub countsUpTo : List ℕ → ℕ → List ℕ
-countsUpTo cards n = tabulate maxCards (load cards n)
+abbrev pub counts_up_to : List ℕ → ℕ → List ℕ
+counts_up_to cards n = tabulate max_cards (load cards n)

@@ -1,10 +1,10 @@
 // The frame lines of a ticket: each frame's card, the refusals 7, 8, 17 and 9, and how many frames each card has.
 ghost use Rattle.std.specs.Prelude.{◌≡◌, true, ◌+◌, ◌*◌, ◌≤◌, length};
-ghost use Rattle.text.specs.Text.{digitValues, is_line};
-ghost use Rattle.header.specs.Editions.{lineDigits, lineBytes};
-ghost use Rattle.header.specs.Limits.{maxFrames};
-ghost use Rattle.frame_lines.specs.Lines.{secondAt, partFault, cardsRead};
-ghost use Rattle.frame_lines.specs.Reading.{ReadTo, notPassing};
+ghost use Rattle.text.specs.Text.{digit_values, is_line};
+ghost use Rattle.header.specs.Editions.{line_digits, line_bytes};
+ghost use Rattle.header.specs.Limits.{max_frames};
+ghost use Rattle.frame_lines.specs.Lines.{second_at, part_fault, cards_read};
+ghost use Rattle.frame_lines.specs.Reading.{ReadTo, not_passing};
 
 use header::editions;
 
@@ -20,7 +20,7 @@ fn read_edition(
     lines: usize,
     card: &mut [u8],
 ) -> usize
-    requires { (value.now ≡ digitValues) × (lines ≤ maxFrames) × (lines ≤ length card.old) × (lineBytes edition * lines ≤ length s.now) }
+    requires { (value.now ≡ digit_values) × (lines ≤ max_frames) × (lines ≤ length card.old) × (line_bytes edition * lines ≤ length s.now) }
     ensures { ReadTo edition s.now cards lines card.old result card.new }
 {
     if edition == editions::EDITION_2 {
@@ -32,8 +32,8 @@ fn read_edition(
 
 // The refusal of a line that does not pass: 7, 8 or 17.
 fn not_passing(value: &[u8; 256], s: &[u8], edition: u8, cards: u8, i: usize) -> u8
-    requires { (value.now ≡ digitValues) × (i ≤ maxFrames) }
-    ensures { result ≡ notPassing edition s.now cards i }
+    requires { (value.now ≡ digit_values) × (i ≤ max_frames) }
+    ensures { result ≡ not_passing edition s.now cards i }
 {
     let digits = editions::line_digits(edition);
     let at = (digits + 1) * i;
@@ -55,9 +55,9 @@ pub fn read_lines(
     frames: u16,
     card: &mut [u8],
 ) -> u8
-    requires { (value.now ≡ digitValues) × (frames ≤ length card.old) × (frames ≤ maxFrames) }
-    ensures { (result ≡ partFault edition s.now cards frames)
-        × (card.new ≡ cardsRead edition s.now cards frames card.old) }
+    requires { (value.now ≡ digit_values) × (frames ≤ length card.old) × (frames ≤ max_frames) }
+    ensures { (result ≡ part_fault edition s.now cards frames)
+        × (card.new ≡ cards_read edition s.now cards frames card.old) }
 {
     let n = frames as usize;
     let bytes = editions::line_digits(edition) + 1;
@@ -78,8 +78,8 @@ pub fn read_lines(
 
 // The capture second of the frame at a place of the list, read from its line.
 pub fn second(value: &[u8; 256], s: &[u8], edition: u8, i: usize) -> u32
-    requires { (value.now ≡ digitValues) × (is_line s.now (lineBytes edition * i) (lineDigits edition) ≡ true) }
-    ensures { result ≡ secondAt edition s.now i }
+    requires { (value.now ≡ digit_values) × (is_line s.now (line_bytes edition * i) (line_digits edition) ≡ true) }
+    ensures { result ≡ second_at edition s.now i }
 {
     let digits = editions::line_digits(edition);
     text::read::number(

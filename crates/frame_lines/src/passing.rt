@@ -1,16 +1,16 @@
 // The lines that pass, in one loop for each edition: of each the card is written, and the first that does not pass ends the loop.
 ghost use Rattle.std.specs.Prelude.{◌≡◌, ◌+◌, ◌*◌, ◌≤◌, length};
-ghost use Rattle.text.specs.Text.{digit, digitValues};
-ghost use Rattle.text.specs.Wide.{wideValues};
-ghost use Rattle.header.specs.Editions.{edition2, secondDigits, lineBytes};
-ghost use Rattle.header.specs.Limits.{maxFrames};
+ghost use Rattle.text.specs.Text.{digit, digit_values};
+ghost use Rattle.text.specs.Wide.{wide_values};
+ghost use Rattle.header.specs.Editions.{edition2, second_digits, line_bytes};
+ghost use Rattle.header.specs.Limits.{max_frames};
 ghost use Rattle.frame_lines.specs.Reading.{ReadTo};
 
 use header::editions;
 
 // The value of two digits, 255 or more where one of them is none.
 fn pair(value: &[u8; 256], high: u8, low: u8) -> u16
-    requires { value.now ≡ digitValues }
+    requires { value.now ≡ digit_values }
     ensures { result ≡ digit high * 16 + digit low }
 {
     let h = text::digit(value, high);
@@ -27,8 +27,8 @@ pub(crate) fn read_1(
     lines: usize,
     card: &mut [u8],
 ) -> usize
-    requires { (value.now ≡ digitValues) × (lines ≤ maxFrames) × (lines ≤ length card.old) × (lineBytes edition * lines ≤ length s.now)
-        × (secondDigits edition ≡ 0) }
+    requires { (value.now ≡ digit_values) × (lines ≤ max_frames) × (lines ≤ length card.old) × (line_bytes edition * lines ≤ length s.now)
+        × (second_digits edition ≡ 0) }
     ensures { ReadTo edition s.now cards lines card.old result card.new }
 {
     let below = cards as u16;
@@ -58,8 +58,8 @@ pub(crate) fn read_2(
     lines: usize,
     card: &mut [u8],
 ) -> usize
-    requires { (value.now ≡ digitValues) × (lines ≤ maxFrames) × (lines ≤ length card.old) × (lineBytes edition2 * lines ≤ length s.now)
-        × (wide.now ≡ wideValues) }
+    requires { (value.now ≡ digit_values) × (lines ≤ max_frames) × (lines ≤ length card.old) × (line_bytes edition2 * lines ≤ length s.now)
+        × (wide.now ≡ wide_values) }
     ensures { ReadTo edition2 s.now cards lines card.old result card.new }
 {
     let below = cards as u16;

@@ -1,15 +1,15 @@
 // How many frames each card has.
 ghost use Rattle.std.specs.Prelude.{◌≡◌, ℕ, ◌≤◌, ◌<◌, length};
-ghost use Rattle.counting.specs.Frames.{cardOf};
-ghost use Rattle.header.specs.Limits.{maxCards, maxFrames};
-ghost use Rattle.frame_lines.specs.Tally.{countsUpTo};
+ghost use Rattle.counting.specs.Frames.{card_of};
+ghost use Rattle.header.specs.Limits.{max_cards, max_frames};
+ghost use Rattle.frame_lines.specs.Tally.{counts_up_to};
 
 use header::limits;
 
 // Counts the first n entries of a list of cards.
 pub fn tally(card: &[u8], n: u16) -> [u16; limits::CARDS]
-    requires { (n ≤ length card.now) × (n ≤ maxFrames) × ((i : ℕ) → i < n → cardOf card.now i < maxCards) }
-    ensures { result ≡ countsUpTo card.now n }
+    requires { (n ≤ length card.now) × (n ≤ max_frames) × ((i : ℕ) → i < n → card_of card.now i < max_cards) }
+    ensures { result ≡ counts_up_to card.now n }
 {
     let end = n as usize;
     let mut count = [0u16; limits::CARDS];

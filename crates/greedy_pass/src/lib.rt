@@ -1,9 +1,9 @@
-// greedyWriting in one pass over the list: a frame's cycle is known when the frame enters. The theory that makes one pass enough is in
+// greedy_writing in one pass over the list: a frame's cycle is known when the frame enters. The theory that makes one pass enough is in
 // proofs/: Assigned, Due, Shown and Process.
 ghost use Rattle.std.specs.Prelude.{◌≡◌, ◌+◌, ◌≤◌, ◌<◌, max, length};
 ghost use Rattle.counting.specs.Count.{largest};
-ghost use Rattle.header.specs.Limits.{maxCards, maxFrames};
-ghost use Rattle.counting.specs.Lists.{takenAt};
+ghost use Rattle.header.specs.Limits.{max_cards, max_frames};
+ghost use Rattle.counting.specs.Lists.{taken_at};
 ghost use Rattle.greedy_pass.specs.Pass.{Asked, Passed};
 
 use counting::Cycle;
@@ -12,7 +12,7 @@ use header::limits;
 // The cycle of a frame that enters: the first that its card has free, after the cycles made. Within the pass a cycle is a place in the
 // table of those due, so that no turn has to widen it.
 fn next_cycle(latest: usize, made: usize) -> usize
-    requires { (latest ≤ maxFrames) × (made ≤ maxFrames) }
+    requires { (latest ≤ max_frames) × (made ≤ max_frames) }
     ensures { result ≡ max latest made + 1 }
 {
     if latest < made { made + 1 } else { latest + 1 }
@@ -20,7 +20,7 @@ fn next_cycle(latest: usize, made: usize) -> usize
 
 // The cycle at a place of that table.
 fn cycle_at(place: usize) -> Cycle
-    requires { place ≤ maxFrames }
+    requires { place ≤ max_frames }
     ensures { result.0 ≡ place }
 {
     Cycle(place as u16)
@@ -29,14 +29,14 @@ fn cycle_at(place: usize) -> Cycle
 // Where the frame stands that is taken k-th, from the front or from the back of a list of n.
 fn taken_at(back: bool, n: usize, k: usize) -> usize
     requires { k < n }
-    ensures { (result ≡ takenAt back n k) × (result < n) }
+    ensures { (result ≡ taken_at back n k) × (result < n) }
 {
     if back { n - 1 - k } else { k }
 }
 
 // The largest of the cards' latest cycles. The array's fixed length lets the compiler unroll the loop.
 fn largest(latest: &[u16; limits::CARDS]) -> Cycle
-    requires { length latest.now ≡ maxCards }
+    requires { length latest.now ≡ max_cards }
     ensures { result.0 ≡ largest latest.now }
 {
     let mut top: u16 = 0;
@@ -58,7 +58,7 @@ pub struct Cycles {
     pub all: Cycle,
 }
 
-// Gives each frame of the list, taken from its front or from its back, its cycle of greedyWriting.
+// Gives each frame of the list, taken from its front or from its back, its cycle of greedy_writing.
 //   due[s]     how many frames have cycle s
 //   latest[c]  the cycle of the frame of card c that entered last, 0 for none
 //   waiting    how many frames wait in the pool, with `made` cycles made

@@ -1,4 +1,4 @@
--- greedyWriting's save as the log sees it, and its closing cycles, however many are asked for.
+-- greedy_writing's save as the log sees it, and its closing cycles, however many are asked for.
 -- Assumes nothing.
 use Prim.Native.Nat.{ℕ, zero, suc}
 use mathlib.Core.Path.{◌≡◌, refl, sym, ap, ◌∙◌}
@@ -7,44 +7,44 @@ use mathlib.Core.List.{List, [], ◌∷◌, ◌++◌}
 use native.Mathlib.Omega.{arith}
 use lib.Dec.{eqb, ltb}
 use borrow.Author.Tests.{eq-eqb, eqb-true}
-use Rattle.schedule.specs.Greedy.{Plan, inPool, enter, oneCycle, saveFrame, flush}
-use Rattle.counting.proofs.Bits.{by_cases, by-test}
-use Rattle.greedy_pool.specs.Log.{entriesOf, logOf}
-use Rattle.greedy_pool.proofs.Logs.{entries-enter, log-enter, log-cycle}
+use Rattle.schedule.specs.Greedy.{Plan, in_pool, enter, one_cycle, save_frame, flush}
+use Rattle.counting.proofs.Bits.{by_cases, by_test}
+use Rattle.greedy_pool.specs.Log.{entries_of, log_of}
+use Rattle.greedy_pool.proofs.Logs.{entries_enter, log_enter, log_cycle}
 
 -- From plan p to plan q no cycle is made and the log stays, or one is made and the log has its entries at the end.
 abbrev pub Logged : List ℕ → Plan → Plan → Type 0
 Logged cards p q =
-    ((q.T ≡ p.T) × (logOf cards q ≡ logOf cards p))
-    ⊎ ((q.T ≡ suc p.T) × (logOf cards q ≡ logOf cards p ++ (entriesOf cards q.cycles q.T ∷ [])))
+    ((q.T ≡ p.T) × (log_of cards q ≡ log_of cards p))
+    ⊎ ((q.T ≡ suc p.T) × (log_of cards q ≡ log_of cards p ++ (entries_of cards q.cycles q.T ∷ [])))
 
-pub cycle-logged : (cards : List ℕ) (p : Plan) → Logged cards p (oneCycle cards p)
-cycle-logged cards p = inr (refl, log-cycle cards p)
+pub cycle_logged : (cards : List ℕ) (p : Plan) → Logged cards p (one_cycle cards p)
+cycle_logged cards p = inr (refl, log_cycle cards p)
 
-pub save-logged : (cards : List ℕ) (m : ℕ) (p : Plan) → Logged cards p (saveFrame cards m p)
-save-logged cards m p =
-    by-test (λ q. Logged cards p (enter q)) (ltb (inPool p.cycles) m) p (oneCycle cards p)
-    (λ e. inl (refl, log-enter cards p))
+pub save_logged : (cards : List ℕ) (m : ℕ) (p : Plan) → Logged cards p (save_frame cards m p)
+save_logged cards m p =
+    by_test (λ q. Logged cards p (enter q)) (ltb (in_pool p.cycles) m) p (one_cycle cards p)
+    (λ e. inl (refl, log_enter cards p))
     (λ e.
     inr (
       refl,
-      log-enter cards (oneCycle cards p)
-          ∙ log-cycle cards p
-          ∙ ap (λ l. logOf cards p ++ (l ∷ [])) (sym (entries-enter cards (oneCycle cards p) (suc p.T) (omega arith))),
+      log_enter cards (one_cycle cards p)
+          ∙ log_cycle cards p
+          ∙ ap (λ l. log_of cards p ++ (l ∷ [])) (sym (entries_enter cards (one_cycle cards p) (suc p.T) (omega arith))),
     ))
 
 -- an empty pool needs no closing cycle
-pub flush-empty : (cards : List ℕ) (k : ℕ) (p : Plan) → inPool p.cycles ≡ 0 → flush cards k p ≡ p
-flush-empty cards zero p e = refl
-flush-empty cards (suc k) p e = rw (eq-eqb (inPool p.cycles) 0 e)
+pub flush_empty : (cards : List ℕ) (k : ℕ) (p : Plan) → in_pool p.cycles ≡ 0 → flush cards k p ≡ p
+flush_empty cards zero p e = refl
+flush_empty cards (suc k) p e = rw (eq-eqb (in_pool p.cycles) 0 e)
 
 -- however many closing cycles are asked for: once the pool is empty, the plan is the same
-pub flush-done :
-    (cards : List ℕ) (k j : ℕ) (p : Plan) → inPool (flush cards k p).cycles ≡ 0 → inPool (flush cards j p).cycles ≡ 0
+pub flush_done :
+    (cards : List ℕ) (k j : ℕ) (p : Plan) → in_pool (flush cards k p).cycles ≡ 0 → in_pool (flush cards j p).cycles ≡ 0
     → flush cards k p ≡ flush cards j p
-flush-done cards zero j p a b = sym (flush-empty cards j p a)
-flush-done cards (suc k) zero p a b = flush-empty cards (suc k) p b
-flush-done cards (suc k) (suc j) p a b =
-    by_cases (eqb (inPool p.cycles) 0)
-    (λ e. let z : inPool p.cycles ≡ 0 = eqb-true (inPool p.cycles) 0 e in flush-empty cards (suc k) p z ∙ sym (flush-empty cards (suc j) p z))
-    (λ e. rw e (flush-done cards k j (oneCycle cards p) (rw e at a) (rw e at b)))
+flush_done cards zero j p a b = sym (flush_empty cards j p a)
+flush_done cards (suc k) zero p a b = flush_empty cards (suc k) p b
+flush_done cards (suc k) (suc j) p a b =
+    by_cases (eqb (in_pool p.cycles) 0)
+    (λ e. let z : in_pool p.cycles ≡ 0 = eqb-true (in_pool p.cycles) 0 e in flush_empty cards (suc k) p z ∙ sym (flush_empty cards (suc j) p z))
+    (λ e. rw e (flush_done cards k j (one_cycle cards p) (rw e at a) (rw e at b)))

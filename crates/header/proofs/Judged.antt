@@ -13,9 +13,9 @@ use Rattle.header.specs.declared.Header.{Header}
 use Rattle.header.specs.declared.Answer.{Answer}
 use Rattle.header.specs.declared.Answer.TheVariants.{Accepted, Refused}
 use Rattle.text.specs.Text.{number, is_line}
-use Rattle.header.specs.Heading.{headerDigits, headerOf, editionOf, withinLimits, headerAnswer, heading}
+use Rattle.header.specs.Heading.{header_digits, header_of, edition_of, within_limits, header_answer, heading}
 use Rattle.header.specs.Editions.{Known}
-use Rattle.header.specs.Limits.{modeSaveAndKeep, maxCards, maxPool, maxFrames, Within, Outside}
+use Rattle.header.specs.Limits.{mode_save_and_keep, max_cards, max_pool, max_frames, Within, Outside}
 use Rattle.header.proofs.Widths.{known_is, not_known}
 
 -- a range's test, and its two cases
@@ -34,56 +34,56 @@ range n x =
     ]
 
 module _ (h : Header) where
-  pub judge-3 : modeSaveAndKeep < h.mode → withinLimits h ≡ Refused 3
-  unfolding withinLimits
-  judge-3 l = rw (lt-leb _ _ l)
+  pub judge_3 : mode_save_and_keep < h.mode → within_limits h ≡ Refused 3
+  unfolding within_limits
+  judge_3 l = rw (lt-leb _ _ l)
 
-  module _ (m : h.mode ≤ modeSaveAndKeep) where
-    pub judge-4 : Outside maxCards h.cards → withinLimits h ≡ Refused 4
-    unfolding withinLimits
-    judge-4 o = rw (le-leb _ _ m, outside _ _ o)
+  module _ (m : h.mode ≤ mode_save_and_keep) where
+    pub judge_4 : Outside max_cards h.cards → within_limits h ≡ Refused 4
+    unfolding within_limits
+    judge_4 o = rw (le-leb _ _ m, outside _ _ o)
 
-    module _ (c : Within maxCards h.cards) where
-      pub judge-5 : Outside maxPool h.pool → withinLimits h ≡ Refused 5
-      unfolding withinLimits
-      judge-5 o = rw (le-leb _ _ m, within _ _ c, outside _ _ o)
+    module _ (c : Within max_cards h.cards) where
+      pub judge_5 : Outside max_pool h.pool → within_limits h ≡ Refused 5
+      unfolding within_limits
+      judge_5 o = rw (le-leb _ _ m, within _ _ c, outside _ _ o)
 
-      module _ (p : Within maxPool h.pool) where
-        pub judge-6 : maxFrames < h.frames → withinLimits h ≡ Refused 6
-        unfolding withinLimits
-        judge-6 l = rw (le-leb _ _ m, within _ _ c, within _ _ p, lt-leb _ _ l)
+      module _ (p : Within max_pool h.pool) where
+        pub judge_6 : max_frames < h.frames → within_limits h ≡ Refused 6
+        unfolding within_limits
+        judge_6 l = rw (le-leb _ _ m, within _ _ c, within _ _ p, lt-leb _ _ l)
 
-        pub judge-accepts : h.frames ≤ maxFrames → withinLimits h ≡ Accepted h
-        unfolding withinLimits
-        judge-accepts l = rw (le-leb _ _ m, within _ _ c, within _ _ p, le-leb _ _ l)
+        pub judge_accepts : h.frames ≤ max_frames → within_limits h ≡ Accepted h
+        unfolding within_limits
+        judge_accepts l = rw (le-leb _ _ m, within _ _ c, within _ _ p, le-leb _ _ l)
 
-  pub edition-refused : (Known h.edition → ⊥) → headerAnswer h ≡ Refused 2
-  unfolding headerAnswer
-  edition-refused n = rw (not_known h.edition n)
+  pub edition_refused : (Known h.edition → ⊥) → header_answer h ≡ Refused 2
+  unfolding header_answer
+  edition_refused n = rw (not_known h.edition n)
 
-  pub edition-passes : Known h.edition → headerAnswer h ≡ withinLimits h
-  unfolding headerAnswer
-  edition-passes k = rw (known_is h.edition k)
+  pub edition_passes : Known h.edition → header_answer h ≡ within_limits h
+  unfolding header_answer
+  edition_passes k = rw (known_is h.edition k)
 
 module _ (t : List ℕ) where
-  pub heading-1 : is_line t 0 headerDigits ≡ false → heading t ≡ Refused 1
+  pub heading_1 : is_line t 0 header_digits ≡ false → heading t ≡ Refused 1
   unfolding heading
-  heading-1 e = rw e
+  heading_1 e = rw e
 
-  heading-of : is_line t 0 headerDigits ≡ true → heading t ≡ headerAnswer (headerOf t)
+  heading_of : is_line t 0 header_digits ≡ true → heading t ≡ header_answer (header_of t)
   unfolding heading
-  heading-of e = rw e
+  heading_of e = rw e
 
-  pub heading-2 : is_line t 0 headerDigits ≡ true → (Known (editionOf t) → ⊥) → heading t ≡ Refused 2
-  heading-2 e n = heading-of e ∙ edition-refused (headerOf t) n
+  pub heading_2 : is_line t 0 header_digits ≡ true → (Known (edition_of t) → ⊥) → heading t ≡ Refused 2
+  heading_2 e n = heading_of e ∙ edition_refused (header_of t) n
 
-  pub heading-passes : is_line t 0 headerDigits ≡ true → Known (editionOf t) → heading t ≡ withinLimits (headerOf t)
-  heading-passes e k = heading-of e ∙ edition-passes (headerOf t) k
+  pub heading_passes : is_line t 0 header_digits ≡ true → Known (edition_of t) → heading t ≡ within_limits (header_of t)
+  heading_passes e k = heading_of e ∙ edition_passes (header_of t) k
 
   -- the numbers that were read are the header's
-  pub heading-read :
-      {r : Answer} {e m c p f : ℕ} → is_line t 0 headerDigits ≡ true
+  pub heading_read :
+      {r : Answer} {e m c p f : ℕ} → is_line t 0 header_digits ≡ true
       → e ≡ number t 0 2 → m ≡ number t 2 2 → c ≡ number t 4 2 → p ≡ number t 6 4
-      → f ≡ number t 10 4 → r ≡ headerAnswer (record { edition = e; mode = m; cards = c; pool = p; frames = f }) → r ≡ heading t
-  unfolding headerOf
-  heading-read l e m c p f j = rw (heading-of l, ← e, ← m, ← c, ← p, ← f) j
+      → f ≡ number t 10 4 → r ≡ header_answer (record { edition = e; mode = m; cards = c; pool = p; frames = f }) → r ≡ heading t
+  unfolding header_of
+  heading_read l e m c p f j = rw (heading_of l, ← e, ← m, ← c, ← p, ← f) j

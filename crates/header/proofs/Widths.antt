@@ -13,8 +13,8 @@ use borrow.Author.Tests.{eq-eqb, ne_eqb, eqb-true, lt-ltb, le-ltb}
 use Rattle.counting.proofs.Bits.{by_cases, or_cases, or_right}
 use Rattle.text.specs.Text.{digit, number}
 use Rattle.text.proofs.Bytes.{decimal, low_digit}
-use Rattle.header.specs.Heading.{headerOf, editionOf, lowEdition}
-use Rattle.header.specs.Editions.{edition1, edition2, Known, known, cardDigits, secondDigits, lineDigits}
+use Rattle.header.specs.Heading.{header_of, edition_of, low_edition}
+use Rattle.header.specs.Editions.{edition1, edition2, Known, known, card_digits, second_digits, line_digits}
 
 module _ (e : ℕ) where
   pub known_is : Known e → known e ≡ true
@@ -22,9 +22,9 @@ module _ (e : ℕ) where
   known_is = ⊎_elim (λ q. rw q) (λ q. or_right (eqb e edition1) (eqb e edition2) (eq-eqb e edition2 q))
 
   -- an edition that is not 01 is read where it is 02
-  pub other-known : (e ≡ edition1 → ⊥) → eqb e edition2 ≡ known e
+  pub other_known : (e ≡ edition1 → ⊥) → eqb e edition2 ≡ known e
   unfolding known
-  other-known n = rw (ne_eqb e edition1 n)
+  other_known n = rw (ne_eqb e edition1 n)
 
   pub is_known : known e ≡ true → Known e
   unfolding known
@@ -37,63 +37,63 @@ module _ (e : ℕ) where
   unknown k n = true≢false (sym (known_is n) ∙ k)
 
   -- "is it read?", decided
-  pub known-or-not : Known e ⊎ (Known e → ⊥)
-  known-or-not = by_cases (known e) (λ k. inl (is_known k)) (λ k. inr (unknown k))
+  pub known_or_not : Known e ⊎ (Known e → ⊥)
+  known_or_not = by_cases (known e) (λ k. inl (is_known k)) (λ k. inr (unknown k))
 
   -- two digits have room for it
   pub known_small : Known e → e < 256
   known_small = ⊎_elim (λ q. omega (arith, q)) (λ q. omega (arith, q))
 
   -- the width
-  pub with_second : e ≡ edition2 → 10 ≡ lineDigits e
-  unfolding secondDigits
+  pub with_second : e ≡ edition2 → 10 ≡ line_digits e
+  unfolding second_digits
   with_second q = rw q
 
-  pub no_second : (e ≡ edition2 → ⊥) → secondDigits e ≡ 0
-  unfolding secondDigits
+  pub no_second : (e ≡ edition2 → ⊥) → second_digits e ≡ 0
+  unfolding second_digits
   no_second n = rw (ne_eqb _ _ n)
 
-  pub card-alone : (e ≡ edition2 → ⊥) → cardDigits ≡ lineDigits e
-  card-alone n = omega (arith, no_second n)
+  pub card_alone : (e ≡ edition2 → ⊥) → card_digits ≡ line_digits e
+  card_alone n = omega (arith, no_second n)
 
   -- no line is wider than one of edition 02
-  pub widest : secondDigits e ≤ 8
-  unfolding secondDigits
+  pub widest : second_digits e ≤ 8
+  unfolding second_digits
   widest = by_cases (eqb e edition2) (λ q. rw q (omega arith)) (λ q. rw q (omega arith))
 
 -- The edition of a text below 10, read byte by byte.
 module _ (t : List ℕ) where
-  two_bytes : editionOf t ≡ digit (get_or t 0 0) * 16 + digit (get_or t 1 0)
-  unfolding headerOf number
+  two_bytes : edition_of t ≡ digit (get_or t 0 0) * 16 + digit (get_or t 1 0)
+  unfolding header_of number
   two_bytes = omega arith
 
   -- its bytes
-  pub low-bytes : editionOf t < 10 → (get_or t 0 0 ≡ 48) × (48 ≤ get_or t 1 0) × (get_or t 1 0 ≤ 57)
-  low-bytes l =
+  pub low_bytes : edition_of t < 10 → (get_or t 0 0 ≡ 48) × (48 ≤ get_or t 1 0) × (get_or t 1 0 ≤ 57)
+  low_bytes l =
       let high = low_digit (get_or t 0 0) (omega (arith, l, two_bytes)) in
       let low = low_digit (get_or t 1 0) (omega (arith, l, two_bytes)) in
       (omega (arith, l, two_bytes, high.0, high.2), low.0, low.1)
 
-  pub low_read : get_or t 0 0 ≡ 48 → 48 ≤ get_or t 1 0 → get_or t 1 0 ≤ 57 → get_or t 1 0 - 48 ≡ lowEdition t
-  unfolding lowEdition
+  pub low_read : get_or t 0 0 ≡ 48 → 48 ≤ get_or t 1 0 → get_or t 1 0 ≤ 57 → get_or t 1 0 - 48 ≡ low_edition t
+  unfolding low_edition
   low_read z l h =
       let first : digit (get_or t 0 0) ≡ 0 = rw z (decimal 48 (omega arith) (omega arith)) in
-      let is : get_or t 1 0 - 48 ≡ editionOf t = omega (arith, two_bytes, first, decimal (get_or t 1 0) l h) in
-      rw (lt-ltb (editionOf t) 10 (omega (arith, is, h))) is
+      let is : get_or t 1 0 - 48 ≡ edition_of t = omega (arith, two_bytes, first, decimal (get_or t 1 0) l h) in
+      rw (lt-ltb (edition_of t) 10 (omega (arith, is, h))) is
 
-  pub none-low : (editionOf t < 10 → ⊥) → 0 ≡ lowEdition t
-  unfolding lowEdition
-  none-low n = rw (le-ltb (editionOf t) 10 (elim (dec_lt (editionOf t) 10) [ yes l ↦ absurd (n l) | no l ↦ omega arith ]))
+  pub none_low : (edition_of t < 10 → ⊥) → 0 ≡ low_edition t
+  unfolding low_edition
+  none_low n = rw (le-ltb (edition_of t) 10 (elim (dec_lt (edition_of t) 10) [ yes l ↦ absurd (n l) | no l ↦ omega arith ]))
 
-  pub short_none : length t < 2 → 0 ≡ lowEdition t
-  short_none h = none-low (λ l. omega (arith, (low-bytes l).1, get_or-eq_default t 0 {n = 1} (omega arith)))
+  pub short_none : length t < 2 → 0 ≡ low_edition t
+  short_none h = none_low (λ l. omega (arith, (low_bytes l).1, get_or-eq_default t 0 {n = 1} (omega arith)))
 
   -- the width of a line goes by it
-  pub low-width : lineDigits (lowEdition t) ≡ lineDigits (editionOf t)
-  unfolding lowEdition
-  low-width =
-      elim (dec_lt (editionOf t) 10) [
-        | yes l ↦ rw (lt-ltb (editionOf t) 10 l)
+  pub low_width : line_digits (low_edition t) ≡ line_digits (edition_of t)
+  unfolding low_edition
+  low_width =
+      elim (dec_lt (edition_of t) 10) [
+        | yes l ↦ rw (lt-ltb (edition_of t) 10 l)
         | no l ↦
-            rw (le-ltb (editionOf t) 10 (omega arith)) (sym (card-alone 0 (λ e. omega arith)) ∙ card-alone (editionOf t) (λ e. omega arith))
+            rw (le-ltb (edition_of t) 10 (omega arith)) (sym (card_alone 0 (λ e. omega arith)) ∙ card_alone (edition_of t) (λ e. omega arith))
       ]

@@ -17,17 +17,17 @@ unfoldable pub known : ℕ → Bool
 known e = eqb e edition1 || eqb e edition2
 
 -- Every line begins with its frame's card, in 2 digits.
-abbrev pub cardDigits : ℕ
-cardDigits = 2
+abbrev pub card_digits : ℕ
+card_digits = 2
 
 -- The digits that follow the card: none in edition 01; "the capture second (8)" in edition 02.
-unfoldable pub secondDigits : ℕ → ℕ
-secondDigits e = cond (eqb e edition2) 8 0
+unfoldable pub second_digits : ℕ → ℕ
+second_digits e = cond (eqb e edition2) 8 0
 
 -- the digits of a line
-abbrev pub lineDigits : ℕ → ℕ
-lineDigits e = cardDigits + secondDigits e
+abbrev pub line_digits : ℕ → ℕ
+line_digits e = card_digits + second_digits e
 
 -- the bytes of a line, with its end byte
-abbrev pub lineBytes : ℕ → ℕ
-lineBytes e = lineDigits e + 1
+abbrev pub line_bytes : ℕ → ℕ
+line_bytes e = line_digits e + 1

@@ -3,31 +3,31 @@
 use Rattle.std.specs.Prelude.{ℕ, ◌≤◌, ◌<◌, ◌≡◌, ◌⊎◌}
 
 -- "Modes: 00 read; 01 save; 02 save and keep."
-abbrev pub modeRead : ℕ
-modeRead = 0
+abbrev pub mode_read : ℕ
+mode_read = 0
 
-abbrev pub modeSave : ℕ
-modeSave = 1
+abbrev pub mode_save : ℕ
+mode_save = 1
 
-abbrev pub modeSaveAndKeep : ℕ
-modeSaveAndKeep = 2
+abbrev pub mode_save_and_keep : ℕ
+mode_save_and_keep = 2
 
 -- "both read and full save" (request 2026-06), "For read and full save" (request 2026-08)
 abbrev pub ReadOrSave : ℕ → Type 0
-ReadOrSave mode = (mode ≡ modeRead) ⊎ (mode ≡ modeSave)
+ReadOrSave mode = (mode ≡ mode_read) ⊎ (mode ≡ mode_save)
 
 -- "Cards 1 to 32". Answers that have an entry for each card have 32 entries.
-abbrev pub maxCards : ℕ
-maxCards = 32
+abbrev pub max_cards : ℕ
+max_cards = 32
 
 -- Request 2026-07: "The largest dock in use has 192 buffers. That becomes the limit in tickets and in the saver". So many frames can wait at once,
 -- which decides the size of a saver's record.
-abbrev pub maxPool : ℕ
-maxPool = 192
+abbrev pub max_pool : ℕ
+max_pool = 192
 
 -- "frames L 0 to 4,096". A plan never has more cycles than frames, so cycles and positions fit in 16 bits.
-abbrev pub maxFrames : ℕ
-maxFrames = 4096
+abbrev pub max_frames : ℕ
+max_frames = 4096
 
 -- "1 to n", and "not 1 to n"
 abbrev pub Within : ℕ → ℕ → Type 0

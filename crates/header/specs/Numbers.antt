@@ -14,13 +14,13 @@ pub record Numbers : Type 0 where
   pub pool : ℕ
   pub frames : ℕ
 
-abbrev pub acceptedAs : Header → Numbers
-acceptedAs h = record { refusal = 0; edition = h.edition; mode = h.mode; cards = h.cards; pool = h.pool; frames = h.frames }
+abbrev pub accepted_as : Header → Numbers
+accepted_as h = record { refusal = 0; edition = h.edition; mode = h.mode; cards = h.cards; pool = h.pool; frames = h.frames }
 
 -- "Beside a refusal's number, other numbers of the answer are 0"
-abbrev pub refusedBy : ℕ → Numbers
-refusedBy k = record { refusal = k; edition = 0; mode = 0; cards = 0; pool = 0; frames = 0 }
+abbrev pub refused_by : ℕ → Numbers
+refused_by k = record { refusal = k; edition = 0; mode = 0; cards = 0; pool = 0; frames = 0 }
 
-abbrev pub numbersOf : Answer → Numbers
-numbersOf (Accepted h) = acceptedAs h
-numbersOf (Refused k) = refusedBy k
+abbrev pub numbers_of : Answer → Numbers
+numbers_of (Accepted h) = accepted_as h
+numbers_of (Refused k) = refused_by k

@@ -1,7 +1,7 @@
 // The editions of a ticket, and how wide a frame line of each is. The definitions that the contracts use are in specs/Editions.antt.
 ghost use Rattle.std.specs.Prelude.{◌≡◌};
-ghost use Rattle.header.specs.Heading.{lowEdition};
-ghost use Rattle.header.specs.Editions.{known, lineDigits};
+ghost use Rattle.header.specs.Heading.{low_edition};
+ghost use Rattle.header.specs.Editions.{known, line_digits};
 
 pub const EDITION_1: u8 = 1;
 
@@ -24,7 +24,7 @@ pub fn known(edition: u8) -> bool
 
 // The digits of a line.
 pub fn line_digits(edition: u8) -> usize
-    ensures { result ≡ lineDigits edition }
+    ensures { result ≡ line_digits edition }
 {
     if edition == EDITION_2 {
         return CARD_DIGITS + SECOND_DIGITS;
@@ -34,7 +34,7 @@ pub fn line_digits(edition: u8) -> usize
 
 // The edition at the front of a text where it is below 10, as those that are read are: written as 0 and a digit up to 9. 0 for any other text.
 pub fn low_edition(t: &[u8]) -> u8
-    ensures { result ≡ lowEdition t.now }
+    ensures { result ≡ low_edition t.now }
 {
     if t.len() < 2 {
         return 0;

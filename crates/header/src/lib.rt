@@ -1,8 +1,8 @@
 // The header of a ticket: refusals 1 to 6.
 ghost use Rattle.std.specs.Prelude.{◌≡◌};
-ghost use Rattle.text.specs.Text.{digitValues};
-ghost use Rattle.header.specs.Heading.{withinLimits, headerAnswer, heading};
-ghost use Rattle.header.specs.Numbers.{numbersOf};
+ghost use Rattle.text.specs.Text.{digit_values};
+ghost use Rattle.header.specs.Heading.{within_limits, header_answer, heading};
+ghost use Rattle.header.specs.Numbers.{numbers_of};
 
 pub mod editions;
 pub mod limits;
@@ -26,7 +26,7 @@ pub enum Answer {
 
 // Refusals 3 to 6.
 fn within_limits(h: Header) -> Answer
-    ensures { result ≡ withinLimits h }
+    ensures { result ≡ within_limits h }
 {
     if limits::MODE_SAVE_AND_KEEP < h.mode {
         return Answer::Refused(3);
@@ -51,7 +51,7 @@ fn within_limits(h: Header) -> Answer
 
 // Refusals 2 to 6.
 fn header_answer(h: Header) -> Answer
-    ensures { result ≡ headerAnswer h }
+    ensures { result ≡ header_answer h }
 {
     if editions::known(h.edition) {
         return within_limits(h);
@@ -61,7 +61,7 @@ fn header_answer(h: Header) -> Answer
 
 // The same as `heading`, with the table of digits lent.
 fn read_heading(value: &[u8; 256], t: &[u8]) -> Answer
-    requires { value.now ≡ digitValues }
+    requires { value.now ≡ digit_values }
     ensures { result ≡ heading t.now }
 {
     if text::read::is_line(value, t, 0, 14) {
@@ -80,7 +80,7 @@ fn read_heading(value: &[u8; 256], t: &[u8]) -> Answer
 // What the first 15 bytes of a ticket say, or refusal 1 to 6.
 pub fn heading(t: &[u8]) -> Answer
     ensures answer { result ≡ heading t.now }
-    ensures numbers { numbersOf result ≡ numbersOf (heading t.now) }
+    ensures numbers { numbers_of result ≡ numbers_of (heading t.now) }
 {
     let value = text::digit_values();
     read_heading(&value, t)

@@ -10,106 +10,106 @@ use lib.ListN.{length}
 use borrow.Author.Tests.{le-leb, lt-leb, leb-true, leb-false, le-ltb, lt-ltb, ltb-true, ltb-false}
 use Rattle.counting.specs.Count.{largest}
 use Rattle.counting.proofs.Bits.{by_cases, and_left, and_right}
-use Rattle.counting.proofs.Lists.{length-tabulate, le-largest, largest-le, largest-met}
-use Rattle.header.specs.Limits.{maxFrames}
-use Rattle.hub.specs.Gather.{maxCameras, cameraOf, cardFor, hubCards, knownPatterns, gatherOf, answer_of, answerFor}
+use Rattle.counting.proofs.Lists.{length_tabulate, le_largest, largest_le, largest_met}
+use Rattle.header.specs.Limits.{max_frames}
+use Rattle.hub.specs.Gather.{max_cameras, camera_of, card_for, hub_cards, known_patterns, gather_of, answer_of, answer_for}
 use Rattle.hub.specs.Grounds.{Known, Seen, Fits, Says, row20, row6, row21, row10, none}
-use Rattle.hub.specs.Numbers.{numbersOf}
-use Rattle.hub.specs.Patterns.{hubSize}
+use Rattle.hub.specs.Numbers.{numbers_of}
+use Rattle.hub.specs.Patterns.{hub_size}
 use Rattle.hub.specs.declared.Answer.{Answer}
 use Rattle.hub.specs.declared.Answer.TheVariants.{Gathered, Refused}
 
 -- what the largest pattern and the largest camera number tell
 
 module _ (chosen : List ℕ) where
-  pub known_from : 1 ≤ length chosen → length chosen ≤ maxCameras → largest chosen < hubSize → Known chosen
-  known_from some few low = record { count = (some, few); pattern = λ q l. omega (arith, le-largest chosen q) }
+  pub known_from : 1 ≤ length chosen → length chosen ≤ max_cameras → largest chosen < hub_size → Known chosen
+  known_from some few low = record { count = (some, few); pattern = λ q l. omega (arith, le_largest chosen q) }
 
-  low-patterns : Known chosen → largest chosen < hubSize
-  low-patterns k = omega (arith, largest-le chosen 7 (λ q l. omega (arith, k.pattern q l)))
+  low_patterns : Known chosen → largest chosen < hub_size
+  low_patterns k = omega (arith, largest_le chosen 7 (λ q l. omega (arith, k.pattern q l)))
 
-  pub not_known : hubSize ≤ largest chosen → Known chosen → ⊥
-  not_known high k = omega (arith, low-patterns k)
+  pub not_known : hub_size ≤ largest chosen → Known chosen → ⊥
+  not_known high k = omega (arith, low_patterns k)
 
   module _ (cameras : List ℕ) where
-    seen-from : largest cameras < length chosen → Seen chosen cameras
-    seen-from low i l = omega (arith, le-largest cameras i)
+    seen_from : largest cameras < length chosen → Seen chosen cameras
+    seen_from low i l = omega (arith, le_largest cameras i)
 
-    pub low-cameras : 1 ≤ length chosen → Seen chosen cameras → largest cameras < length chosen
-    low-cameras some s = omega (arith, largest-le cameras (length chosen - 1) (λ i l. omega (arith, s i l)))
+    pub low_cameras : 1 ≤ length chosen → Seen chosen cameras → largest cameras < length chosen
+    low_cameras some s = omega (arith, largest_le cameras (length chosen - 1) (λ i l. omega (arith, s i l)))
 
-    not_seen : 1 ≤ length chosen → length chosen ≤ largest cameras → (i : ℕ) × (i < length cameras) × (length chosen ≤ cameraOf cameras i)
-    not_seen some high = let met = largest-met cameras (omega arith) in (met.0, met.1, omega (arith, met.2))
+    not_seen : 1 ≤ length chosen → length chosen ≤ largest cameras → (i : ℕ) × (i < length cameras) × (length chosen ≤ camera_of cameras i)
+    not_seen some high = let met = largest_met cameras (omega arith) in (met.0, met.1, omega (arith, met.2))
 
 -- the rows after 6, by these numbers
 module _
-    (chosen cameras : List ℕ) (places : ℕ) (some : 1 ≤ length chosen) (few : length chosen ≤ maxCameras) (low : largest chosen < hubSize)
-    (short : length cameras ≤ maxFrames) where
-  pub camera-row : length chosen ≤ largest cameras → Says chosen cameras places (Refused 21)
-  camera-row high = let unseen = not_seen chosen cameras some high in row21 (known_from chosen some few low) short unseen.0 unseen.1 unseen.2
+    (chosen cameras : List ℕ) (places : ℕ) (some : 1 ≤ length chosen) (few : length chosen ≤ max_cameras) (low : largest chosen < hub_size)
+    (short : length cameras ≤ max_frames) where
+  pub camera_row : length chosen ≤ largest cameras → Says chosen cameras places (Refused 21)
+  camera_row high = let unseen = not_seen chosen cameras some high in row21 (known_from chosen some few low) short unseen.0 unseen.1 unseen.2
 
   pub room_row : largest cameras < length chosen → places < length cameras → Says chosen cameras places (Refused 10)
-  room_row seen less = row10 (known_from chosen some few low) short (seen-from chosen cameras seen) less
+  room_row seen less = row10 (known_from chosen some few low) short (seen_from chosen cameras seen) less
 
   pub no_row : largest cameras < length chosen → length cameras ≤ places → Says chosen cameras places (Gathered (length cameras))
-  no_row seen room = none (record { known = known_from chosen some few low; few = short; seen = seen-from chosen cameras seen; room = room })
+  no_row seen room = none (record { known = known_from chosen some few low; few = short; seen = seen_from chosen cameras seen; room = room })
 
 -- the tests of the definition
 
 module _ (chosen : List ℕ) where
   abbrev counted : Bool
-  counted = leb 1 (length chosen) && leb (length chosen) maxCameras
+  counted = leb 1 (length chosen) && leb (length chosen) max_cameras
 
-  is_known : knownPatterns chosen ≡ true → Known chosen
+  is_known : known_patterns chosen ≡ true → Known chosen
   is_known e =
-      let count = and_left counted (ltb (largest chosen) hubSize) e in
+      let count = and_left counted (ltb (largest chosen) hub_size) e in
       known_from chosen
-      (leb-true 1 (length chosen) (and_left (leb 1 (length chosen)) (leb (length chosen) maxCameras) count))
-      (leb-true (length chosen) maxCameras (and_right (leb 1 (length chosen)) (leb (length chosen) maxCameras) count))
-      (ltb-true (largest chosen) hubSize (and_right counted (ltb (largest chosen) hubSize) e))
+      (leb-true 1 (length chosen) (and_left (leb 1 (length chosen)) (leb (length chosen) max_cameras) count))
+      (leb-true (length chosen) max_cameras (and_right (leb 1 (length chosen)) (leb (length chosen) max_cameras) count))
+      (ltb-true (largest chosen) hub_size (and_right counted (ltb (largest chosen) hub_size) e))
 
-  pub known_is : Known chosen → knownPatterns chosen ≡ true
+  pub known_is : Known chosen → known_patterns chosen ≡ true
   known_is k =
       rw (
         le-leb 1 (length chosen) k.count.0,
-        le-leb (length chosen) maxCameras k.count.1,
-        lt-ltb (largest chosen) hubSize (low-patterns chosen k),
+        le-leb (length chosen) max_cameras k.count.1,
+        lt-ltb (largest chosen) hub_size (low_patterns chosen k),
       )
 
-  unknown-is : (Known chosen → ⊥) → knownPatterns chosen ≡ false
-  unknown-is n = by_cases (knownPatterns chosen) (λ e. absurd (n (is_known e))) (λ e. e)
+  unknown_is : (Known chosen → ⊥) → known_patterns chosen ≡ false
+  unknown_is n = by_cases (known_patterns chosen) (λ e. absurd (n (is_known e))) (λ e. e)
 
 -- the answer
 
-pub as_many : (chosen cameras : List ℕ) → length (hubCards chosen cameras) ≡ length cameras
-unfolding hubCards
-as_many chosen cameras = length-tabulate (length cameras) (cardFor chosen cameras)
+pub as_many : (chosen cameras : List ℕ) → length (hub_cards chosen cameras) ≡ length cameras
+unfolding hub_cards
+as_many chosen cameras = length_tabulate (length cameras) (card_for chosen cameras)
 
 module _ (chosen cameras : List ℕ) (places : ℕ) where
   abbrev answer : Answer
-  answer = answerFor chosen cameras places
+  answer = answer_for chosen cameras places
 
   -- a row's answer is the call's
-  pub says-only : (r : Answer) → Says chosen cameras places r → r ≡ answer
-  unfolding gatherOf answer_of
-  says-only r (row20 n) = rw (unknown-is chosen n)
-  says-only r (row6 k long) = rw (known_is chosen k, lt-ltb maxFrames (length cameras) long)
-  says-only r (row21 k few i l high) =
-      let top : length chosen ≤ largest cameras = omega (arith, le-largest cameras i) in
-      rw (known_is chosen k, le-ltb maxFrames (length cameras) few, le-leb (length chosen) (largest cameras) top)
-  says-only r (row10 k few s short) =
-      let low = low-cameras chosen cameras k.count.0 s in
+  pub says_only : (r : Answer) → Says chosen cameras places r → r ≡ answer
+  unfolding gather_of answer_of
+  says_only r (row20 n) = rw (unknown_is chosen n)
+  says_only r (row6 k long) = rw (known_is chosen k, lt-ltb max_frames (length cameras) long)
+  says_only r (row21 k few i l high) =
+      let top : length chosen ≤ largest cameras = omega (arith, le_largest cameras i) in
+      rw (known_is chosen k, le-ltb max_frames (length cameras) few, le-leb (length chosen) (largest cameras) top)
+  says_only r (row10 k few s short) =
+      let low = low_cameras chosen cameras k.count.0 s in
       rw (
         known_is chosen k,
-        le-ltb maxFrames (length cameras) few,
+        le-ltb max_frames (length cameras) few,
         lt-leb (length chosen) (largest cameras) low,
         lt-ltb places (length cameras) short,
       )
-  says-only r (none f) =
-      let low = low-cameras chosen cameras f.known.count.0 f.seen in
+  says_only r (none f) =
+      let low = low_cameras chosen cameras f.known.count.0 f.seen in
       rw (
         known_is chosen f.known,
-        le-ltb maxFrames (length cameras) f.few,
+        le-ltb max_frames (length cameras) f.few,
         lt-leb (length chosen) (largest cameras) low,
         le-ltb places (length cameras) f.room,
         as_many chosen cameras,
@@ -118,16 +118,16 @@ module _ (chosen cameras : List ℕ) (places : ℕ) where
   -- and the call's answer is a row's
   pub says : Says chosen cameras places answer
   says =
-      by_cases (knownPatterns chosen)
+      by_cases (known_patterns chosen)
       (λ a.
       let k = is_known chosen a in
-      let low = low-patterns chosen k in
-      by_cases (ltb maxFrames (length cameras))
-      (λ b. found (row6 k (ltb-true maxFrames (length cameras) b)))
+      let low = low_patterns chosen k in
+      by_cases (ltb max_frames (length cameras))
+      (λ b. found (row6 k (ltb-true max_frames (length cameras) b)))
       (λ b.
-      let short = ltb-false maxFrames (length cameras) b in
+      let short = ltb-false max_frames (length cameras) b in
       by_cases (leb (length chosen) (largest cameras))
-      (λ d. found (camera-row chosen cameras places k.count.0 k.count.1 low short (leb-true (length chosen) (largest cameras) d)))
+      (λ d. found (camera_row chosen cameras places k.count.0 k.count.1 low short (leb-true (length chosen) (largest cameras) d)))
       (λ d.
       let seen = leb-false (length chosen) (largest cameras) d in
       by_cases (ltb places (length cameras))
@@ -136,16 +136,16 @@ module _ (chosen cameras : List ℕ) (places : ℕ) where
       (λ a. found (row20 (λ k. true≢false (sym (known_is chosen k) ∙ a))))
     where
       found : {r : Answer} → Says chosen cameras places r → Says chosen cameras places answer
-      found {r} s = rw (sym (says-only r s)) s
+      found {r} s = rw (sym (says_only r s)) s
 
   -- its number
-  pub number-says : (r : Answer) → Says chosen cameras places r → (numbersOf r).refusal ≡ (numbersOf answer).refusal
-  number-says r s = ap (λ (x : Answer). (numbersOf x).refusal) (says-only r s)
+  pub number_says : (r : Answer) → Says chosen cameras places r → (numbers_of r).refusal ≡ (numbers_of answer).refusal
+  number_says r s = ap (λ (x : Answer). (numbers_of x).refusal) (says_only r s)
 
-  pub refused-is : (k : ℕ) → k ≡ (numbersOf answer).refusal → (k ≡ 0 → ⊥) → Refused k ≡ answer
-  refused-is k e n = go answer says e
+  pub refused_is : (k : ℕ) → k ≡ (numbers_of answer).refusal → (k ≡ 0 → ⊥) → Refused k ≡ answer
+  refused_is k e n = go answer says e
     where
-      go : (r : Answer) → Says chosen cameras places r → k ≡ (numbersOf r).refusal → Refused k ≡ r
+      go : (r : Answer) → Says chosen cameras places r → k ≡ (numbers_of r).refusal → Refused k ≡ r
       go r (row20 _) e = ap Refused e
       go r (row6 _ _) e = ap Refused e
       go r (row21 _ _ _ _ _) e = ap Refused e
@@ -153,10 +153,10 @@ module _ (chosen cameras : List ℕ) (places : ℕ) where
       go r (none _) e = absurd (n e)
 
   -- with no refusal there was no ground
-  pub no-ground : 0 ≡ (numbersOf answer).refusal → Fits chosen cameras places
-  no-ground e = go answer says e
+  pub no_ground : 0 ≡ (numbers_of answer).refusal → Fits chosen cameras places
+  no_ground e = go answer says e
     where
-      go : (r : Answer) → Says chosen cameras places r → 0 ≡ (numbersOf r).refusal → Fits chosen cameras places
+      go : (r : Answer) → Says chosen cameras places r → 0 ≡ (numbers_of r).refusal → Fits chosen cameras places
       go r (row20 _) e = absurd (omega arith)
       go r (row6 _ _) e = absurd (omega arith)
       go r (row21 _ _ _ _ _) e = absurd (omega arith)

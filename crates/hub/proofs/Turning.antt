@@ -8,8 +8,8 @@ use native.Mathlib.Nat.{add-zero, zero-mul, add-mul, mul_assoc, pow-suc}
 use lib.ListN.{get_or, set}
 use lib.Seq.{sets}
 use Rattle.counting.specs.Count.{sum}
-use Rattle.counting.proofs.Sums.{sum-cong, sum-front}
-use Rattle.hub.specs.Patterns.{hubSize, patternRow, patternCard}
+use Rattle.counting.proofs.Sums.{sum_cong, sum_front}
+use Rattle.hub.specs.Patterns.{hub_size, pattern_row, pattern_card}
 use Rattle.hub.specs.Words.{word_at, word_in, turn, low_bytes}
 
 -- the eight bytes from a place on, in two halves
@@ -22,16 +22,16 @@ unfolding word_at
 eight_is s at low high word a b f = omega (arith, ap (λ (x : ℕ). get_or s x 0) (add-zero at))
 
 -- the row of a pattern, from its first place on
-pub first-place : (p : ℕ) → word_in (patternRow p) 0 ≡ word_at (patternCard p) 0
+pub first_place : (p : ℕ) → word_in (pattern_row p) 0 ≡ word_at (pattern_card p) 0
 unfolding word_at
-first-place p = refl
+first_place p = refl
 
 -- a word that is turned fits
-half-fits : (q r : ℕ) → q < 72057594037927936 → r < 256 → q + r * 72057594037927936 < 18446744073709551616
-half-fits q r h l = omega arith
+half_fits : (q r : ℕ) → q < 72057594037927936 → r < 256 → q + r * 72057594037927936 < 18446744073709551616
+half_fits q r h l = omega arith
 
-pub turn-fits : (word : ℕ) → word < 18446744073709551616 → turn word < 18446744073709551616
-turn-fits word h = half-fits (word / 256) (word % 256) (omega arith) (omega arith)
+pub turn_fits : (word : ℕ) → word < 18446744073709551616 → turn word < 18446744073709551616
+turn_fits word h = half_fits (word / 256) (word % 256) (omega arith) (omega arith)
 
 -- bytes that are put one after the other
 pub byte_put :
@@ -42,20 +42,20 @@ byte_put out at j rest l =
     let next : at + (j + 1) ≡ suc (at + j) = omega arith in
     rw (one, next)
 
-pub all-put : (out : List ℕ) (at j rest : ℕ) → j ≡ 8 → sets out (at + j) (low_bytes (8 - j) rest) ≡ out
-all-put out at j rest e = rw e
+pub all_put : (out : List ℕ) (at j rest : ℕ) → j ≡ 8 → sets out (at + j) (low_bytes (8 - j) rest) ≡ out
+all_put out at j rest e = rw e
 
 -- the lowest byte of a number, and the others
 low_byte : (b rest : ℕ) → b < 256 → (b + rest * 256) % 256 ≡ b
 low_byte b rest h = omega arith
 
-high-bytes : (b rest : ℕ) → b < 256 → (b + rest * 256) / 256 ≡ rest
-high-bytes b rest h = omega arith
+high_bytes : (b rest : ℕ) → b < 256 → (b + rest * 256) / 256 ≡ rest
+high_bytes b rest h = omega arith
 
-module _ (card : ℕ → ℕ) (low : (k : ℕ) → k < hubSize → card k < 256) where
+module _ (card : ℕ → ℕ) (low : (k : ℕ) → k < hub_size → card k < 256) where
   -- the card at the j-th place after place k
   abbrev after : ℕ → ℕ → ℕ
-  after k j = card ((k + j) % hubSize)
+  after k j = card ((k + j) % hub_size)
 
   -- the seven cards above the lowest
   abbrev above : ℕ → ℕ
@@ -72,62 +72,62 @@ module _ (card : ℕ → ℕ) (low : (k : ℕ) → k < hubSize → card k < 256)
   moved k = omega (arith, next k 0, next k 1, next k 2, next k 3, next k 4, next k 5, next k 6, round k)
     where
       next : (k j : ℕ) → after (suc k) j ≡ after k (j + 1)
-      next k j = ap (λ (x : ℕ). card (x % hubSize)) (omega arith)
+      next k j = ap (λ (x : ℕ). card (x % hub_size)) (omega arith)
 
       round : (k : ℕ) → after (suc k) 7 ≡ after k 0
       round k = ap card (omega arith)
 
   small : (k : ℕ) → after k 0 < 256
-  small k = low ((k + 0) % hubSize) (omega arith)
+  small k = low ((k + 0) % hub_size) (omega arith)
 
-  pub lowest : (k : ℕ) → word_at card k % 256 ≡ card (k % hubSize)
-  lowest k = rw (parts k, low_byte (after k 0) (above k) (small k)) (ap (λ (x : ℕ). card (x % hubSize)) (add-zero k))
+  pub lowest : (k : ℕ) → word_at card k % 256 ≡ card (k % hub_size)
+  lowest k = rw (parts k, low_byte (after k 0) (above k) (small k)) (ap (λ (x : ℕ). card (x % hub_size)) (add-zero k))
 
   pub turned : (k : ℕ) → word_at card k / 256 + word_at card k % 256 * 72057594037927936 ≡ word_at card (suc k)
-  turned k = rw (parts k, moved k, low_byte (after k 0) (above k) (small k), high-bytes (after k 0) (above k) (small k))
+  turned k = rw (parts k, moved k, low_byte (after k 0) (above k) (small k), high_bytes (after k 0) (above k) (small k))
 
   -- after eight turns a word is as it was
-  pub word-round : (k : ℕ) → word_at card (k + hubSize) ≡ word_at card k
+  pub word_round : (k : ℕ) → word_at card (k + hub_size) ≡ word_at card k
   unfolding word_at
-  word-round k =
-      sum-cong hubSize (λ j. after (k + hubSize) j * 256 ^ j) (λ j. after k j * 256 ^ j) (λ j l. ap (λ (x : ℕ). card x * 256 ^ j) (omega arith))
+  word_round k =
+      sum_cong hub_size (λ j. after (k + hub_size) j * 256 ^ j) (λ j. after k j * 256 ^ j) (λ j l. ap (λ (x : ℕ). card x * 256 ^ j) (omega arith))
 
 -- the values of a function at m places from i on
 abbrev pub values : (ℕ → ℕ) → ℕ → ℕ → List ℕ
 values f i zero = []
 values f i (suc m) = f i ∷ values f (suc i) m
 
-pub values-cong : (m : ℕ) (f g : ℕ → ℕ) (i k : ℕ) → ((j : ℕ) → j < m → f (i + j) ≡ g (k + j)) → values f i m ≡ values g k m
-values-cong zero f g i k h = refl
-values-cong (suc m) f g i k h =
+pub values_cong : (m : ℕ) (f g : ℕ → ℕ) (i k : ℕ) → ((j : ℕ) → j < m → f (i + j) ≡ g (k + j)) → values f i m ≡ values g k m
+values_cong zero f g i k h = refl
+values_cong (suc m) f g i k h =
     let first : f i ≡ g k = ap f (sym (add-zero i)) ∙ h 0 (omega arith) ∙ ap g (add-zero k) in
     let others : values f (suc i) m ≡ values g (suc k) m =
-    values-cong m f g (suc i) (suc k) (λ j l. ap f (omega arith) ∙ h (suc j) (omega arith) ∙ ap g (omega arith)) in
+    values_cong m f g (suc i) (suc k) (λ j l. ap f (omega arith) ∙ h (suc j) (omega arith) ∙ ap g (omega arith)) in
     rw (first, others)
 
 -- the bytes of a number that is made of bytes
-sum-scale : (m c : ℕ) (f : ℕ → ℕ) → sum m (λ j. f j * c) ≡ sum m f * c
-sum-scale zero c f = sym (zero-mul c)
-sum-scale (suc m) c f = rw (sum-scale m c f) (sym (add-mul (sum m f) (f m) c))
+sum_scale : (m c : ℕ) (f : ℕ → ℕ) → sum m (λ j. f j * c) ≡ sum m f * c
+sum_scale zero c f = sym (zero-mul c)
+sum_scale (suc m) c f = rw (sum_scale m c f) (sym (add-mul (sum m f) (f m) c))
 
-pub bytes-are :
+pub bytes_are :
     (m : ℕ) (b : ℕ → ℕ) (i : ℕ) → ((j : ℕ) → b j < 256) → low_bytes m (sum m (λ j. b (i + j) * 256 ^ j)) ≡ values b i m
-bytes-are zero b i h = refl
-bytes-are (suc m) b i h =
+bytes_are zero b i h = refl
+bytes_are (suc m) b i h =
     let rest : ℕ = sum m (λ j. b (suc i + j) * 256 ^ j) in
     let tail : sum m (λ j. b (i + suc j) * 256 ^ suc j) ≡ rest * 256 =
-    sum-cong m (λ j. b (i + suc j) * 256 ^ suc j) (λ j. (b (suc i + j) * 256 ^ j) * 256)
+    sum_cong m (λ j. b (i + suc j) * 256 ^ suc j) (λ j. (b (suc i + j) * 256 ^ j) * 256)
     (λ j l.
     ap (λ (x : ℕ). b x * 256 ^ suc j) (omega arith)
     ∙ ap (λ (x : ℕ). b (suc i + j) * x) (pow-suc 256 j)
     ∙ sym (mul_assoc (b (suc i + j)) (256 ^ j) 256))
-    ∙ sum-scale m 256 (λ j. b (suc i + j) * 256 ^ j) in
+    ∙ sum_scale m 256 (λ j. b (suc i + j) * 256 ^ j) in
     let whole : sum (suc m) (λ j. b (i + j) * 256 ^ j) ≡ b i + rest * 256 =
-    sum-front m (λ j. b (i + j) * 256 ^ j) ∙ omega (arith, tail, ap b (add-zero i)) in
-    rw (whole, low_byte (b i) rest (h i), high-bytes (b i) rest (h i), bytes-are m b (suc i) h)
+    sum_front m (λ j. b (i + j) * 256 ^ j) ∙ omega (arith, tail, ap b (add-zero i)) in
+    rw (whole, low_byte (b i) rest (h i), high_bytes (b i) rest (h i), bytes_are m b (suc i) h)
 
-pub card-bytes :
-    (card : ℕ → ℕ) → ((k : ℕ) → k < hubSize → card k < 256)
-    → (k : ℕ) → low_bytes 8 (word_at card k) ≡ values (λ j. card (j % hubSize)) k hubSize
+pub card_bytes :
+    (card : ℕ → ℕ) → ((k : ℕ) → k < hub_size → card k < 256)
+    → (k : ℕ) → low_bytes 8 (word_at card k) ≡ values (λ j. card (j % hub_size)) k hub_size
 unfolding word_at
-card-bytes card low k = bytes-are hubSize (λ j. card (j % hubSize)) k (λ j. low (j % hubSize) (omega arith))
+card_bytes card low k = bytes_are hub_size (λ j. card (j % hub_size)) k (λ j. low (j % hub_size) (omega arith))

@@ -9,7 +9,7 @@ pub record Numbers : Type 0 where
   pub refusal : ℕ
   pub frames : ℕ
 
-abbrev pub numbersOf : Answer → Numbers
-numbersOf (Gathered n) = record { refusal = 0; frames = n }
+abbrev pub numbers_of : Answer → Numbers
+numbers_of (Gathered n) = record { refusal = 0; frames = n }
 -- "Beside a refusal's number, other numbers of the answer are 0"
-numbersOf (Refused k) = record { refusal = k; frames = 0 }
+numbers_of (Refused k) = record { refusal = k; frames = 0 }

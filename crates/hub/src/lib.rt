@@ -2,10 +2,10 @@
 ghost use Rattle.std.specs.Prelude.{◌≡◌, true, ◌+◌, ◌≤◌, length};
 ghost use Rattle.counting.specs.Count.{largest, written};
 ghost use Rattle.hub.specs.Fullest.{Gathering};
-ghost use Rattle.hub.specs.Gather.{hubCards, answerFor, bufferAfter};
+ghost use Rattle.hub.specs.Gather.{hub_cards, answer_for, buffer_after};
 ghost use Rattle.hub.specs.Grounds.{Fits};
-ghost use Rattle.hub.specs.Numbers.{numbersOf};
-ghost use Rattle.hub.specs.Patterns.{hubSize};
+ghost use Rattle.hub.specs.Numbers.{numbers_of};
+ghost use Rattle.hub.specs.Patterns.{hub_size};
 ghost use Rattle.hub.specs.Words.{Places, Inside, AllOf};
 
 use header::limits;
@@ -40,7 +40,7 @@ fn largest(numbers: &[u8]) -> u8
 
 // The number of the refusal, with a buffer of so many places: 20, then 6, then 21, then 10; 0 for none.
 fn refusal(chosen: &[u8], cameras: &[u8], places: usize) -> u8
-    ensures { result ≡ (numbersOf (answerFor chosen.now cameras.now places)).refusal }
+    ensures { result ≡ (numbers_of (answer_for chosen.now cameras.now places)).refusal }
 {
     let count = chosen.len();
     let frames = cameras.len();
@@ -84,7 +84,7 @@ fn place_each(cameras: &[u8], from: usize, to: usize, words: &mut [u64; CAMERAS]
 // Whether the eight frames from a place on are all of one camera.
 fn all_of(camera: u8, cameras: &[u8], at: usize) -> bool
     requires { at + 8 ≤ length cameras.now }
-    ensures { (result ≡ true → AllOf camera cameras.now at hubSize) × (AllOf camera cameras.now at hubSize → result ≡ true) }
+    ensures { (result ≡ true → AllOf camera cameras.now at hub_size) × (AllOf camera cameras.now at hub_size → result ≡ true) }
 {
     let mut same = true;
     let mut j: usize = 0;
@@ -102,7 +102,7 @@ fn all_of(camera: u8, cameras: &[u8], at: usize) -> bool
 // the word turns all the way round.
 fn place(chosen: &[u8], cameras: &[u8], cards: &mut [u8])
     requires { Fits chosen.now cameras.now (length cards.old) }
-    ensures { cards.new ≡ written (hubCards chosen.now cameras.now) cards.old }
+    ensures { cards.new ≡ written (hub_cards chosen.now cameras.now) cards.old }
 {
     let n = cameras.len();
     let mut words = patterns::words_of(chosen);
@@ -123,10 +123,10 @@ fn place(chosen: &[u8], cameras: &[u8], cards: &mut [u8])
 // Gathers a list of frames, given by the camera of each: writes their cards over the front of the buffer; later places keep their content.
 // `chosen` has the pattern of each camera. A refusal changes nothing. `fullest` is what request 2026-06 promises of the cards that now stand there.
 pub fn gather(chosen: &[u8], cameras: &[u8], cards: &mut [u8]) -> Answer
-    ensures answer { result ≡ answerFor chosen.now cameras.now (length cards.old) }
-    ensures buffer { cards.new ≡ bufferAfter chosen.now cameras.now cards.old }
-    ensures numbers { numbersOf result ≡ numbersOf (answerFor chosen.now cameras.now (length cards.old)) }
-    ensures fullest { Gathering chosen.now (numbersOf result).refusal (numbersOf result).frames cards.new }
+    ensures answer { result ≡ answer_for chosen.now cameras.now (length cards.old) }
+    ensures buffer { cards.new ≡ buffer_after chosen.now cameras.now cards.old }
+    ensures numbers { numbers_of result ≡ numbers_of (answer_for chosen.now cameras.now (length cards.old)) }
+    ensures fullest { Gathering chosen.now (numbers_of result).refusal (numbers_of result).frames cards.new }
 {
     let number = refusal(chosen, cameras, cards.len());
     if number != 0 {

@@ -1,7 +1,7 @@
 // The eight fixed patterns of the hub, and those that the cameras use, each as one word of 64 bits.
 ghost use Rattle.std.specs.Prelude.{◌≡◌, ◌<◌};
 ghost use Rattle.hub.specs.Grounds.{Known};
-ghost use Rattle.hub.specs.Patterns.{hubSize, patternRow, patternCard};
+ghost use Rattle.hub.specs.Patterns.{hub_size, pattern_row, pattern_card};
 ghost use Rattle.hub.specs.Words.{word_at, Words};
 
 // Cards of the hub; also how many places a pattern has, and how many patterns there are.
@@ -31,16 +31,16 @@ pub(crate) fn index(number: u8) -> usize
 
 // The cards at the places of a pattern.
 fn row(pattern: usize) -> [u8; SIZE]
-    requires { pattern < hubSize }
-    ensures { result ≡ patternRow pattern }
+    requires { pattern < hub_size }
+    ensures { result ≡ pattern_row pattern }
 {
     PATTERNS[pattern]
 }
 
 // A pattern as a word: a byte for each place, place 0 lowest.
 fn word(pattern: usize) -> u64
-    requires { pattern < hubSize }
-    ensures { result ≡ word_at (patternCard pattern) 0 }
+    requires { pattern < hub_size }
+    ensures { result ≡ word_at (pattern_card pattern) 0 }
 {
     let card = row(pattern);
     crate::words::eight_at(&card, 0)

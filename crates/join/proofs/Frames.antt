@@ -7,35 +7,35 @@ use native.Mathlib.Omega.{arith}
 use lib.ListN.{length}
 use Rattle.counting.specs.Count.{tabulate}
 use Rattle.header.specs.Editions.{edition2}
-use Rattle.header.specs.Heading.{editionOf}
+use Rattle.header.specs.Heading.{edition_of}
 use Rattle.header.specs.declared.Header.{Header}
-use Rattle.frame_lines.specs.Lines.{cardAt, secondAt}
+use Rattle.frame_lines.specs.Lines.{card_at, second_at}
 use Rattle.ticket.specs.Grounds.{part}
-use Rattle.ticket.specs.Seconds.{howManySeconds, secondsOf}
+use Rattle.ticket.specs.Seconds.{how_many_seconds, seconds_of}
 use Rattle.ticket.specs.Ticket.{accepted, parse}
-use Rattle.ticket.proofs.Accepted.{row, as_many, its-edition, its-line}
-use Rattle.ticket.proofs.Seconds.{seconds-are, as-frames}
+use Rattle.ticket.proofs.Accepted.{row, as_many, its_edition, its_line}
+use Rattle.ticket.proofs.Seconds.{seconds_are, as_frames}
 use Rattle.merged_lines.specs.Merge.{frames}
-use Rattle.merged_lines.specs.Lines.{HasLines, framesIn}
-use Rattle.merged_lines.proofs.Framed.{framed-length}
+use Rattle.merged_lines.specs.Lines.{HasLines, frames_in}
+use Rattle.merged_lines.proofs.Framed.{framed_length}
 
 module _ (t : List ℕ) (h : Header) (cards : List ℕ) (e : parse t ≡ accepted h cards) (two : h.edition ≡ edition2) where
-  its-cards : cards ≡ tabulate h.frames (cardAt edition2 (part t))
-  its-cards =
-      let edition : edition2 ≡ editionOf t = sym two ∙ its-edition t h cards e in
-      rw (edition, (row t h cards e).its-header) (row t h cards e).its-cards
+  its_cards : cards ≡ tabulate h.frames (card_at edition2 (part t))
+  its_cards =
+      let edition : edition2 ≡ edition_of t = sym two ∙ its_edition t h cards e in
+      rw (edition, (row t h cards e).its_header) (row t h cards e).its_cards
 
-  its-seconds : secondsOf t ≡ tabulate h.frames (secondAt edition2 (part t))
-  its-seconds =
-      let count : howManySeconds h.edition (length cards) ≡ h.frames = as-frames h.edition (length cards) two ∙ as_many t h cards e in
-      seconds-are t h cards e ∙ rw (count, two)
+  its_seconds : seconds_of t ≡ tabulate h.frames (second_at edition2 (part t))
+  its_seconds =
+      let count : how_many_seconds h.edition (length cards) ≡ h.frames = as_frames h.edition (length cards) two ∙ as_many t h cards e in
+      seconds_are t h cards e ∙ rw (count, two)
 
-  pub its-frames : frames cards (secondsOf t) ≡ framesIn (part t) h.frames
-  its-frames = rw (its-cards, its-seconds)
+  pub its_frames : frames cards (seconds_of t) ≡ frames_in (part t) h.frames
+  its_frames = rw (its_cards, its_seconds)
 
-  pub frames-many : length (frames cards (secondsOf t)) ≡ h.frames
-  frames-many = ap length its-frames ∙ framed-length (part t) h.frames
+  pub frames_many : length (frames cards (seconds_of t)) ≡ h.frames
+  frames_many = ap length its_frames ∙ framed_length (part t) h.frames
 
-  pub has-lines : HasLines (part t) h.frames
-  has-lines i l =
-      rw two at (its-line t h cards e i (omega (arith, l, as_many t h cards e)))
+  pub has_lines : HasLines (part t) h.frames
+  has_lines i l =
+      rw two at (its_line t h cards e i (omega (arith, l, as_many t h cards e)))

@@ -6,13 +6,13 @@ use mathlib.Core.List.{List, ◌++◌, append_assoc}
 use native.Mathlib.Omega.{arith}
 use lib.ListN.{length, set, length-append}
 use lib.Seq.{sets}
-use Rattle.counting.proofs.Parts.{sets-append, sets-length}
-use Rattle.text.specs.Hex.{hex, endOfLine}
-use Rattle.text.specs.Text.{endByte}
-use Rattle.text.proofs.Hex.{length-hex}
-use Rattle.header.specs.Heading.{headerBytes}
+use Rattle.counting.proofs.Parts.{sets_append, sets_length}
+use Rattle.text.specs.Hex.{hex, end_of_line}
+use Rattle.text.specs.Text.{end_byte}
+use Rattle.text.proofs.Hex.{length_hex}
+use Rattle.header.specs.Heading.{header_bytes}
 use Rattle.header.specs.declared.Header.{Header}
-use Rattle.ticket.specs.Print.{headerText}
+use Rattle.ticket.specs.Print.{header_text}
 
 -- a list, and what it is after each field
 module _ (h : Header) (l x1 x2 x3 x4 x5 : List ℕ)
@@ -21,13 +21,13 @@ module _ (h : Header) (l x1 x2 x3 x4 x5 : List ℕ)
     (e3 : x3 ≡ sets x2 4 (hex 2 h.cards))
     (e4 : x4 ≡ sets x3 6 (hex 4 h.pool))
     (e5 : x5 ≡ sets x4 10 (hex 4 h.frames)) where
-  pub header-length : length x5 ≡ length l
-  header-length =
-      sets-length x4 x5 10 (hex 4 h.frames) e5
-      ∙ sets-length x3 x4 6 (hex 4 h.pool) e4
-      ∙ sets-length x2 x3 4 (hex 2 h.cards) e3
-      ∙ sets-length x1 x2 2 (hex 2 h.mode) e2
-      ∙ sets-length l x1 0 (hex 2 h.edition) e1
+  pub header_length : length x5 ≡ length l
+  header_length =
+      sets_length x4 x5 10 (hex 4 h.frames) e5
+      ∙ sets_length x3 x4 6 (hex 4 h.pool) e4
+      ∙ sets_length x2 x3 4 (hex 2 h.cards) e3
+      ∙ sets_length x1 x2 2 (hex 2 h.mode) e2
+      ∙ sets_length l x1 0 (hex 2 h.edition) e1
 
   abbrev a : List ℕ
   a = hex 2 h.edition
@@ -45,40 +45,40 @@ module _ (h : Header) (l x1 x2 x3 x4 x5 : List ℕ)
   f = hex 4 h.frames
 
   four : length (a ++ b) ≡ 4
-  four = omega (arith, length-append a b, length-hex 2 h.edition, length-hex 2 h.mode)
+  four = omega (arith, length-append a b, length_hex 2 h.edition, length_hex 2 h.mode)
 
   six : length ((a ++ b) ++ c) ≡ 6
-  six = omega (arith, four, length-append (a ++ b) c, length-hex 2 h.cards)
+  six = omega (arith, four, length-append (a ++ b) c, length_hex 2 h.cards)
 
   ten : length (((a ++ b) ++ c) ++ d) ≡ 10
-  ten = omega (arith, six, length-append ((a ++ b) ++ c) d, length-hex 4 h.pool)
+  ten = omega (arith, six, length-append ((a ++ b) ++ c) d, length_hex 4 h.pool)
 
   fourteen : length ((((a ++ b) ++ c) ++ d) ++ f) ≡ 14
-  fourteen = omega (arith, ten, length-append (((a ++ b) ++ c) ++ d) f, length-hex 4 h.frames)
+  fourteen = omega (arith, ten, length-append (((a ++ b) ++ c) ++ d) f, length_hex 4 h.frames)
 
-  pub put-header : set x5 14 endByte ≡ sets l 0 (headerText h)
-  put-header =
+  pub put_header : set x5 14 end_byte ≡ sets l 0 (header_text h)
+  put_header =
       rw (
         e5,
         e4,
         e3,
         e2,
         e1,
-        sets-append l 0 a b 2 (omega (arith, length-hex 2 h.edition)),
-        sets-append l 0 (a ++ b) c 4 (omega (arith, four)),
-        sets-append l 0 ((a ++ b) ++ c) d 6 (omega (arith, six)),
-        sets-append l 0 (((a ++ b) ++ c) ++ d) f 10 (omega (arith, ten)),
-        sets-append l 0 ((((a ++ b) ++ c) ++ d) ++ f) endOfLine 14 (omega (arith, fourteen)),
-        append_assoc (((a ++ b) ++ c) ++ d) f endOfLine,
-        append_assoc ((a ++ b) ++ c) d (f ++ endOfLine),
-        append_assoc (a ++ b) c (d ++ (f ++ endOfLine)),
-        append_assoc a b (c ++ (d ++ (f ++ endOfLine))),
+        sets_append l 0 a b 2 (omega (arith, length_hex 2 h.edition)),
+        sets_append l 0 (a ++ b) c 4 (omega (arith, four)),
+        sets_append l 0 ((a ++ b) ++ c) d 6 (omega (arith, six)),
+        sets_append l 0 (((a ++ b) ++ c) ++ d) f 10 (omega (arith, ten)),
+        sets_append l 0 ((((a ++ b) ++ c) ++ d) ++ f) end_of_line 14 (omega (arith, fourteen)),
+        append_assoc (((a ++ b) ++ c) ++ d) f end_of_line,
+        append_assoc ((a ++ b) ++ c) d (f ++ end_of_line),
+        append_assoc (a ++ b) c (d ++ (f ++ end_of_line)),
+        append_assoc a b (c ++ (d ++ (f ++ end_of_line))),
       )
 
 -- its bytes
-pub header-bytes : (h : Header) → length (headerText h) ≡ headerBytes
-header-bytes h =
-    let from10 = hex 4 h.frames ++ endOfLine in
+pub length_of_header : (h : Header) → length (header_text h) ≡ header_bytes
+length_of_header h =
+    let from10 = hex 4 h.frames ++ end_of_line in
     let from6 = hex 4 h.pool ++ from10 in
     let from4 = hex 2 h.cards ++ from6 in
     omega (
@@ -87,10 +87,10 @@ header-bytes h =
       length-append (hex 2 h.mode) from4,
       length-append (hex 2 h.cards) from6,
       length-append (hex 4 h.pool) from10,
-      length-append (hex 4 h.frames) endOfLine,
-      length-hex 2 h.edition,
-      length-hex 2 h.mode,
-      length-hex 2 h.cards,
-      length-hex 4 h.pool,
-      length-hex 4 h.frames,
+      length-append (hex 4 h.frames) end_of_line,
+      length_hex 2 h.edition,
+      length_hex 2 h.mode,
+      length_hex 2 h.cards,
+      length_hex 4 h.pool,
+      length_hex 4 h.frames,
     )

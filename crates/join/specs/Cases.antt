@@ -4,7 +4,7 @@
 use Rattle.std.specs.Prelude.{ℕ, List, [], ◌∷◌, replicate}
 use Rattle.header.specs.declared.Header.{Header}
 use Rattle.merged_lines.specs.Merge.{Frame}
-use Rattle.join.specs.Join.{joinRead, answer_of}
+use Rattle.join.specs.Join.{join_read, answer_of}
 use Rattle.join.specs.declared.Answer.{Answer}
 use Rattle.join.specs.declared.Answer.TheVariants.{Joined, Refused}
 
@@ -13,7 +13,7 @@ pub data Case : Type 0 where
   case : Header → List Frame → Header → List Frame → ℕ → Answer → Case
 
 abbrev pub answered : Case → Answer
-answered (case g a h b places r) = answer_of (joinRead g a h b) places
+answered (case g a h b places r) = answer_of (join_read g a h b) places
 
 abbrev pub expected : Case → Answer
 expected (case g a h b places r) = r

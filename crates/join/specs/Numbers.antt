@@ -9,7 +9,7 @@ pub record Numbers : Type 0 where
   pub refusal : ℕ
   pub bytes : ℕ
 
-abbrev pub numbersOf : Answer → Numbers
-numbersOf (Joined n) = record { refusal = 0; bytes = n }
+abbrev pub numbers_of : Answer → Numbers
+numbers_of (Joined n) = record { refusal = 0; bytes = n }
 -- "Beside a refusal's number, other numbers of the answer are 0"
-numbersOf (Refused k) = record { refusal = k; bytes = 0 }
+numbers_of (Refused k) = record { refusal = k; bytes = 0 }

@@ -1,9 +1,9 @@
 -- What the functions behind `join` answer, for two tickets that are accepted.
 -- Assumes nothing.
 use Rattle.std.specs.Prelude.{ℕ, ◌+◌, ◌*◌, ◌≡◌, cond, List, ltb}
-use Rattle.header.specs.Editions.{edition2, lineBytes}
-use Rattle.header.specs.Heading.{headerBytes}
-use Rattle.header.specs.Limits.{maxFrames}
+use Rattle.header.specs.Editions.{edition2, line_bytes}
+use Rattle.header.specs.Heading.{header_bytes}
+use Rattle.header.specs.Limits.{max_frames}
 use Rattle.header.specs.declared.Header.{Header}
 use Rattle.header.specs.declared.Answer.TheVariants.{Accepted}
 use Rattle.ticket.specs.Ticket.{parse, answer_in}
@@ -18,8 +18,8 @@ abbrev pub together : Header → Header → ℕ
 together g h = g.frames + h.frames
 
 -- 18, then 19, then 10; 0 for none
-unfoldable pub pairRefusal : Header → Header → ℕ → ℕ
-pairRefusal g h places =
+unfoldable pub pair_refusal : Header → Header → ℕ → ℕ
+pair_refusal g h places =
     cond (joinable g h)
-    (cond (ltb maxFrames (together g h)) 19 (cond (ltb places (headerBytes + lineBytes edition2 * together g h)) 10 0))
+    (cond (ltb max_frames (together g h)) 19 (cond (ltb places (header_bytes + line_bytes edition2 * together g h)) 10 0))
     18

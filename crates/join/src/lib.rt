@@ -1,12 +1,12 @@
 // One showing from two tickets: two edition 02 read tickets are joined into one, sorted by capture second.
 ghost use Rattle.std.specs.Prelude.{◌≡◌, ◌≤◌, length};
 ghost use Rattle.std.proofs.lemmas.List.Edits.{sets};
-ghost use Rattle.header.specs.Heading.{headerBytes};
-ghost use Rattle.ticket.specs.Print.{headerText};
-ghost use Rattle.join.specs.Join.{joinable, join_of, answer_of, bufferAfter, Answered};
-ghost use Rattle.join.specs.Numbers.{numbersOf};
+ghost use Rattle.header.specs.Heading.{header_bytes};
+ghost use Rattle.ticket.specs.Print.{header_text};
+ghost use Rattle.join.specs.Join.{joinable, join_of, answer_of, buffer_after, Answered};
+ghost use Rattle.join.specs.Numbers.{numbers_of};
 ghost use Rattle.join.specs.Showing.{Showing};
-ghost use Rattle.join.specs.Steps.{HasHeader, pairRefusal};
+ghost use Rattle.join.specs.Steps.{HasHeader, pair_refusal};
 
 use header::{Header, editions, limits};
 
@@ -46,7 +46,7 @@ fn joinable(g: Header, h: Header) -> bool
 
 // The refusal of two tickets that are read, with a buffer of so many places: 18, then 19, then 10; 0 for none.
 fn refusal(g: Header, h: Header, places: usize) -> u8
-    ensures { result ≡ pairRefusal g h places }
+    ensures { result ≡ pair_refusal g h places }
 {
     if joinable(g, h) {
         let frames = (g.frames as usize) + (h.frames as usize);
@@ -63,8 +63,8 @@ fn refusal(g: Header, h: Header, places: usize) -> u8
 
 // A header, at the front of a buffer.
 fn put_header(out: &mut [u8], h: Header)
-    requires { headerBytes ≤ length out.old }
-    ensures { out.new ≡ sets out.old 0 (headerText h) }
+    requires { header_bytes ≤ length out.old }
+    ensures { out.new ≡ sets out.old 0 (header_text h) }
 {
     let digits = text::write::digit_texts();
     text::write::put2(&digits, out, 0, h.edition);
@@ -111,9 +111,9 @@ fn join_read(first: &[u8], g: Header, second: &[u8], h: Header, out: &mut [u8]) 
 // A refusal changes nothing. `showing` is what request 2026-04 promises of the ticket that now stands in the buffer.
 pub fn join(first: &[u8], second: &[u8], out: &mut [u8]) -> Answer
     ensures answer { result ≡ answer_of (join_of first.now second.now) (length out.old) }
-    ensures buffer { out.new ≡ bufferAfter (join_of first.now second.now) out.old }
-    ensures numbers { numbersOf result ≡ numbersOf (answer_of (join_of first.now second.now) (length out.old)) }
-    ensures showing { Showing first.now second.now (numbersOf result).refusal (numbersOf result).bytes out.new }
+    ensures buffer { out.new ≡ buffer_after (join_of first.now second.now) out.old }
+    ensures numbers { numbers_of result ≡ numbers_of (answer_of (join_of first.now second.now) (length out.old)) }
+    ensures showing { Showing first.now second.now (numbers_of result).refusal (numbers_of result).bytes out.new }
 {
     let mut card = [0u8; limits::FRAMES];
     let a = ticket::read(first, &mut card);

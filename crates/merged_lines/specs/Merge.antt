@@ -4,7 +4,7 @@
 -- same frames again.
 -- Assumes nothing.
 use Rattle.std.specs.Prelude.{ℕ, suc, ◌+◌, ◌≤◌, ◌<◌, cond, List, [], ◌∷◌, leb, ltb, length, get_or}
-use Rattle.counting.specs.Count.{howMany}
+use Rattle.counting.specs.Count.{how_many}
 
 -- A frame as an edition 02 line says it: "the card (2) and the capture second (8)".
 pub record Frame : Type 0 where
@@ -32,17 +32,17 @@ merge (x ∷ a) b = before x (merge a) b
 abbrev pub frame_at : List Frame → ℕ → Frame
 frame_at l i = get_or l i (record { second = 0; card = 0 })
 
-abbrev pub secondIn : List Frame → ℕ → ℕ
-secondIn l i = (frame_at l i).second
+abbrev pub second_in : List Frame → ℕ → ℕ
+second_in l i = (frame_at l i).second
 
 -- "Seconds may repeat but not fall."
 abbrev pub NotFalling : List Frame → Type 0
-NotFalling l = (i : ℕ) → suc i < length l → secondIn l i ≤ secondIn l (suc i)
+NotFalling l = (i : ℕ) → suc i < length l → second_in l i ≤ second_in l (suc i)
 
 -- Where the frames of two lists stand when they are merged: frame i of the first after the frames of the second that have a lower second,
 -- frame j of the second after those of the first that have the same second or a lower one.
-abbrev pub firstPlace : List Frame → List Frame → ℕ → ℕ
-firstPlace a b i = i + howMany (length b) (λ j. ltb (secondIn b j) (secondIn a i))
+abbrev pub first_place : List Frame → List Frame → ℕ → ℕ
+first_place a b i = i + how_many (length b) (λ j. ltb (second_in b j) (second_in a i))
 
-abbrev pub secondPlace : List Frame → List Frame → ℕ → ℕ
-secondPlace a b j = j + howMany (length a) (λ i. leb (secondIn a i) (secondIn b j))
+abbrev pub second_place : List Frame → List Frame → ℕ → ℕ
+second_place a b j = j + how_many (length a) (λ i. leb (second_in a i) (second_in b j))

@@ -2,10 +2,10 @@
 ghost use Rattle.std.specs.Prelude.{◌≡◌, ◌+◌, ◌*◌, ◌≤◌, ◌<◌, length, take, drop};
 ghost use Rattle.std.proofs.lemmas.List.Edits.{sets};
 ghost use Rattle.text.specs.Text.{Line};
-ghost use Rattle.text.specs.UpperCase.{upperCase};
-ghost use Rattle.header.specs.Limits.{maxFrames};
+ghost use Rattle.text.specs.UpperCase.{upper_case};
+ghost use Rattle.header.specs.Limits.{max_frames};
 ghost use Rattle.merged_lines.specs.Packed.{packed};
-ghost use Rattle.merged_lines.specs.Lines.{HasLines, key_at, mergedText};
+ghost use Rattle.merged_lines.specs.Lines.{HasLines, key_at, merged_text};
 
 use header::editions;
 
@@ -20,8 +20,8 @@ const NO_KEY: u64 = 18446744073709551615;
 // A line of `s`, written at a place of `out` in upper case. `key` has the digits of its second. They are written first, since the compiler makes
 // one store of them where no other store stands before.
 fn put_line(s: &[u8], from: usize, key: u64, out: &mut [u8], at: usize)
-    requires { Line s.now from 10 × (key ≡ packed (upperCase s.now) (from + 2) 8) × (at + 11 ≤ length out.old) }
-    ensures { out.new ≡ sets out.old at (take 11 (drop from (upperCase s.now))) }
+    requires { Line s.now from 10 × (key ≡ packed (upper_case s.now) (from + 2) 8) × (at + 11 ≤ length out.old) }
+    ensures { out.new ≡ sets out.old at (take 11 (drop from (upper_case s.now))) }
 {
     packed::put_eight(out, at + 2, key);
     let card = packed::upper_two(s[from], s[from + 1]);
@@ -32,7 +32,7 @@ fn put_line(s: &[u8], from: usize, key: u64, out: &mut [u8], at: usize)
 
 // What the line at an offset is sorted by: the digits of its second; at the end of the lines a larger number.
 fn key_at(s: &[u8], end: usize, from: usize) -> u64
-    requires { (end ≤ 11 * maxFrames) × (from < end → Line s.now from 10) }
+    requires { (end ≤ 11 * max_frames) × (from < end → Line s.now from 10) }
     ensures { result ≡ key_at s.now end from }
 {
     if from < end {
@@ -44,8 +44,8 @@ fn key_at(s: &[u8], end: usize, from: usize) -> u64
 // Writes the n lines of `a` and the m lines of `b`, merged, from a place of `out` on. Each turn writes the line with the smaller key, that of `a`
 // where both have the same, and then reads the next key of that side alone.
 pub fn put_merged(a: &[u8], n: usize, b: &[u8], m: usize, out: &mut [u8], at: usize)
-    requires { HasLines a.now n × HasLines b.now m × (n + m ≤ maxFrames) × (at + 11 * (n + m) ≤ length out.old) }
-    ensures { out.new ≡ sets out.old at (mergedText a.now n b.now m) }
+    requires { HasLines a.now n × HasLines b.now m × (n + m ≤ max_frames) × (at + 11 * (n + m) ≤ length out.old) }
+    ensures { out.new ≡ sets out.old at (merged_text a.now n b.now m) }
 {
     let first_end = BYTES * n;
     let second_end = BYTES * m;

@@ -2,7 +2,7 @@
 ghost use Rattle.std.specs.Prelude.{◌≡◌, true, ◌+◌, ◌*◌, ◌≤◌, ◌<◌, length};
 ghost use Rattle.std.proofs.lemmas.List.Edits.{sets};
 ghost use Rattle.text.specs.Text.{digit, digits};
-ghost use Rattle.text.specs.UpperCase.{upper, upperCase};
+ghost use Rattle.text.specs.UpperCase.{upper, upper_case};
 ghost use Rattle.merged_lines.specs.Packed.{packed, bytes};
 
 // In each byte 31: added to it, a to f reach 128 and no other digit does.
@@ -44,7 +44,7 @@ fn eight_at(s: &[u8], at: usize) -> u64
 // The eight digits from a place on, in upper case. A small letter is 32 above its capital.
 pub(crate) fn upper_eight(s: &[u8], at: usize) -> u64
     requires { (at + 8 ≤ length s.now) × (digits s.now at 8 ≡ true) }
-    ensures { result ≡ packed (upperCase s.now) at 8 }
+    ensures { result ≡ packed (upper_case s.now) at 8 }
 {
     let x = eight_at(s, at);
     x - ((x + TO_TOP) & TOP) / 4

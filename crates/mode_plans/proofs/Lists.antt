@@ -13,6 +13,6 @@ asked h cards out f l =
     record {
       pool = f.pool.0;
       few = omega (arith, f.frames, f.few);
-      each-card = λ i k. omega (arith, f.each-card i k, f.card-range.1);
+      each_card = λ i k. omega (arith, f.each_card i k, f.card_range.1);
       room = omega (arith, f.frames);
     }

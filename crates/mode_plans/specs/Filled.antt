@@ -7,4 +7,4 @@ use Rattle.schedule.specs.Greedy.{Plan}
 -- a plan is written over the front of `before`, and its T answered
 pub record Filled (plan : Plan) (before after : List ℕ) (T : ℕ) : Type 0 where
   pub buffer : after ≡ written plan.cycles before
-  pub length-is : T ≡ plan.T
+  pub length_is : T ≡ plan.T

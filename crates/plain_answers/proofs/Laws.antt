@@ -3,13 +3,13 @@
 use mathlib.Core.Path.{◌≡◌, refl}
 use mathlib.Core.Bool.{Bool}
 use Rattle.counting.specs.declared.Cycle.{Cycle}
-use Rattle.plan_run.specs.Numbers.{completeIn, neededIn, numbersOf as numbersOfRun}
+use Rattle.plan_run.specs.Numbers.{complete_in, needed_in, numbers_of as numbersOfRun}
 use Rattle.plan_run.specs.declared.Run.{Run}
 use Rattle.plan_run.specs.declared.Answer.TheVariants.{Ran}
-use Rattle.plain_answers.specs.Answers.{runAnswer}
+use Rattle.plain_answers.specs.Answers.{run_answer}
 
 pub ran :
-    (run : Run) (whole : Bool) (needed : Cycle) → whole ≡ completeIn run.outcome → needed ≡ neededIn run.outcome
+    (run : Run) (whole : Bool) (needed : Cycle) → whole ≡ complete_in run.outcome → needed ≡ needed_in run.outcome
     → record {
       refusal = 0;
       broken = run.broken;
@@ -19,5 +19,5 @@ pub ran :
       needed = needed;
       peak = run.peak;
     }
-    ≡ runAnswer (numbersOfRun (Ran run))
+    ≡ run_answer (numbersOfRun (Ran run))
 ran run whole needed e f = rw (e, f) refl

@@ -1,9 +1,9 @@
 // A verdict, and a plan's run.
 ghost use Rattle.std.specs.Prelude.{◌≡◌};
-ghost use Rattle.checker.specs.Numbers.{numbersOf};
-ghost use Rattle.plan_run.specs.Numbers.{completeIn, neededIn, numbersOf as numbersOfRun};
+ghost use Rattle.checker.specs.Numbers.{numbers_of};
+ghost use Rattle.plan_run.specs.Numbers.{complete_in, needed_in, numbers_of as numbersOfRun};
 ghost use Rattle.plan_run.specs.declared.Answer.TheVariants.{Ran};
-ghost use Rattle.plain_answers.specs.Answers.{checkAnswer, runAnswer};
+ghost use Rattle.plain_answers.specs.Answers.{check_answer, run_answer};
 
 use counting::{Cycle, Position};
 
@@ -53,7 +53,7 @@ fn fault(verdict: u8, p: Position) -> CheckAnswer
 }
 
 pub fn check_answer(verdict: checker::Verdict) -> CheckAnswer
-    ensures { result ≡ checkAnswer (numbersOf verdict) }
+    ensures { result ≡ check_answer (numbers_of verdict) }
 {
     match verdict {
         checker::Verdict::Valid(cycles, peak) => CheckAnswer {
@@ -77,7 +77,7 @@ pub fn check_answer(verdict: checker::Verdict) -> CheckAnswer
 }
 
 fn is_complete(outcome: plan_run::Outcome) -> bool
-    ensures { result ≡ completeIn outcome }
+    ensures { result ≡ complete_in outcome }
 {
     match outcome {
         plan_run::Outcome::Complete(_) => true,
@@ -86,7 +86,7 @@ fn is_complete(outcome: plan_run::Outcome) -> bool
 }
 
 fn cycles_needed(outcome: plan_run::Outcome) -> Cycle
-    ensures { result ≡ neededIn outcome }
+    ensures { result ≡ needed_in outcome }
 {
     match outcome {
         plan_run::Outcome::Complete(needed) => needed,
@@ -95,7 +95,7 @@ fn cycles_needed(outcome: plan_run::Outcome) -> Cycle
 }
 
 fn ran(run: plan_run::Run) -> RunAnswer
-    ensures { result ≡ runAnswer (numbersOfRun (Ran run)) }
+    ensures { result ≡ run_answer (numbersOfRun (Ran run)) }
 {
     let outcome = run.outcome;
     let ended = run.ended;
@@ -111,7 +111,7 @@ fn ran(run: plan_run::Run) -> RunAnswer
 }
 
 pub fn run_answer(answer: plan_run::Answer) -> RunAnswer
-    ensures { result ≡ runAnswer (numbersOfRun answer) }
+    ensures { result ≡ run_answer (numbersOfRun answer) }
 {
     match answer {
         plan_run::Answer::Ran(run) => ran(run),

@@ -1,7 +1,7 @@
 // How many cards the hub gave.
 ghost use Rattle.std.specs.Prelude.{◌≡◌};
-ghost use Rattle.hub.specs.Numbers.{numbersOf};
-ghost use Rattle.plain_answers.specs.Answers.{hubAnswer};
+ghost use Rattle.hub.specs.Numbers.{numbers_of};
+ghost use Rattle.plain_answers.specs.Answers.{hub_answer};
 
 // So many cards given.
 #[repr(C)]
@@ -12,7 +12,7 @@ pub struct HubAnswer {
 }
 
 pub fn hub_answer(answer: hub::Answer) -> HubAnswer
-    ensures { result ≡ hubAnswer (numbersOf answer) }
+    ensures { result ≡ hub_answer (numbers_of answer) }
 {
     match answer {
         hub::Answer::Gathered(frames) => HubAnswer {

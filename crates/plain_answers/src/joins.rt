@@ -1,7 +1,7 @@
 // A joined ticket's bytes.
 ghost use Rattle.std.specs.Prelude.{◌≡◌};
-ghost use Rattle.join.specs.Numbers.{numbersOf};
-ghost use Rattle.plain_answers.specs.Answers.{joinAnswer};
+ghost use Rattle.join.specs.Numbers.{numbers_of};
+ghost use Rattle.plain_answers.specs.Answers.{join_answer};
 
 // A joined ticket of so many bytes.
 #[repr(C)]
@@ -12,7 +12,7 @@ pub struct JoinAnswer {
 }
 
 pub fn join_answer(answer: join::Answer) -> JoinAnswer
-    ensures { result ≡ joinAnswer (numbersOf answer) }
+    ensures { result ≡ join_answer (numbers_of answer) }
 {
     match answer {
         join::Answer::Joined(bytes) => JoinAnswer {

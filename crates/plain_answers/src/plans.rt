@@ -1,7 +1,7 @@
 // A plan's T.
 ghost use Rattle.std.specs.Prelude.{◌≡◌};
-ghost use Rattle.planner.specs.Numbers.{numbersOf};
-ghost use Rattle.plain_answers.specs.Answers.{planAnswer};
+ghost use Rattle.planner.specs.Numbers.{numbers_of};
+ghost use Rattle.plain_answers.specs.Answers.{plan_answer};
 
 use counting::Cycle;
 
@@ -14,7 +14,7 @@ pub struct PlanAnswer {
 }
 
 pub fn plan_answer(answer: planner::Answer) -> PlanAnswer
-    ensures { result ≡ planAnswer (numbersOf answer) }
+    ensures { result ≡ plan_answer (numbers_of answer) }
 {
     match answer {
         planner::Answer::Planned(cycles) => PlanAnswer {

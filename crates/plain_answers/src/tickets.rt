@@ -1,7 +1,7 @@
 // What a ticket says: its header, the line at a position, and the frames of each card.
 ghost use Rattle.std.specs.Prelude.{◌≡◌};
-ghost use Rattle.header.specs.Numbers.{numbersOf};
-ghost use Rattle.plain_answers.specs.Answers.{ticketAnswer};
+ghost use Rattle.header.specs.Numbers.{numbers_of};
+ghost use Rattle.plain_answers.specs.Answers.{ticket_answer};
 
 use header::limits;
 
@@ -34,7 +34,7 @@ pub struct CountsAnswer {
 }
 
 pub fn ticket_answer(answer: header::Answer) -> TicketAnswer
-    ensures { result ≡ ticketAnswer (numbersOf answer) }
+    ensures { result ≡ ticket_answer (numbers_of answer) }
 {
     match answer {
         header::Answer::Refused(number) => TicketAnswer {

@@ -9,28 +9,28 @@ use native.Mathlib.Omega.{arith}
 use native.Mathlib.Decide.{ℕ_discrete}
 use lib.ListN.{length}
 use borrow.Author.Tests.{eq-eqb, ne_eqb}
-use Rattle.counting.proofs.Least.{least-found, least-none}
-use Rattle.schedule.specs.Schedule.{cycleOf}
+use Rattle.counting.proofs.Least.{least_found, least_none}
+use Rattle.schedule.specs.Schedule.{cycle_of}
 use Rattle.schedule.specs.Verdict.{shares}
-use Rattle.plan_faults.specs.Faults.{cardFault, clearOf}
+use Rattle.plan_faults.specs.Faults.{card_fault, clear_of}
 use Rattle.plan_faults.specs.Searches.{ClearTo}
 
 -- what makes a card fault, and what rules it out
 module _ (cards cycles : List ℕ) (i : ℕ) where
-  pub fault-by-cycle : cycleOf cycles i ≡ 0 → cardFault cards cycles i ≡ true
-  fault-by-cycle e = rw (eq-eqb (cycleOf cycles i) 0 e)
+  pub fault_by_cycle : cycle_of cycles i ≡ 0 → card_fault cards cycles i ≡ true
+  fault_by_cycle e = rw (eq-eqb (cycle_of cycles i) 0 e)
 
-  pub fault-by-card : cycleOf cycles i ≢ 0 → shares cards cycles i ≡ true → cardFault cards cycles i ≡ true
-  fault-by-card n s = rw (ne_eqb (cycleOf cycles i) 0 n, s)
+  pub fault_by_card : cycle_of cycles i ≢ 0 → shares cards cycles i ≡ true → card_fault cards cycles i ≡ true
+  fault_by_card n s = rw (ne_eqb (cycle_of cycles i) 0 n, s)
 
-  pub no-card-fault : cycleOf cycles i ≢ 0 → shares cards cycles i ≡ false → cardFault cards cycles i ≡ false
-  no-card-fault n s = rw (ne_eqb (cycleOf cycles i) 0 n, s)
+  pub no_card_fault : cycle_of cycles i ≢ 0 → shares cards cycles i ≡ false → card_fault cards cycles i ≡ false
+  no_card_fault n s = rw (ne_eqb (cycle_of cycles i) 0 n, s)
 
 pub clear_first : (cards cycles : List ℕ) → ClearTo cards cycles 0
 clear_first cards cycles = record { inside = omega arith; each = λ j l. absurd (omega arith) }
 
 module _ {cards cycles : List ℕ} {i : ℕ} (v : ClearTo cards cycles i) where
-  pub clear_next : i < length cards → cardFault cards cycles i ≡ false → ClearTo cards cycles (i + 1)
+  pub clear_next : i < length cards → card_fault cards cycles i ≡ false → ClearTo cards cycles (i + 1)
   clear_next l e =
       record {
         inside = omega arith;
@@ -39,8 +39,8 @@ module _ {cards cycles : List ℕ} {i : ℕ} (v : ClearTo cards cycles i) where
 
   -- of the first n frames
   module _ {n : ℕ} where
-    pub clear-ends : i < n → cardFault cards cycles i ≡ true → i ≡ clearOf cards cycles n
-    clear-ends l e = sym (least-found n i (cardFault cards cycles) l e v.each)
+    pub clear_ends : i < n → card_fault cards cycles i ≡ true → i ≡ clear_of cards cycles n
+    clear_ends l e = sym (least_found n i (card_fault cards cycles) l e v.each)
 
-    pub clear-all : n ≤ i → n ≡ clearOf cards cycles n
-    clear-all l = sym (least-none n (cardFault cards cycles) (λ j k. v.each j (omega arith)))
+    pub clear_all : n ≤ i → n ≡ clear_of cards cycles n
+    clear_all l = sym (least_none n (card_fault cards cycles) (λ j k. v.each j (omega arith)))

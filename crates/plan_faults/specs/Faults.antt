@@ -3,48 +3,48 @@
 -- Assumes nothing.
 use Rattle.std.specs.Prelude.{ℕ, ◌≤◌, ◌<◌, ◌≡◌, Bool, true, false, ◌||◌, List, eqb, length}
 use Rattle.counting.specs.Count.{least}
-use Rattle.counting.specs.Frames.{cardOf}
-use Rattle.schedule.specs.Schedule.{cycleOf}
-use Rattle.schedule.specs.Verdict.{Fault, noCycle, sharedCard, overfull, Verdict, valid, faulty, shares, judgeFrom}
-use Rattle.header.specs.Limits.{maxCards, maxFrames}
-use Rattle.pool_counts.specs.Backlog.{backlogOf}
+use Rattle.counting.specs.Frames.{card_of}
+use Rattle.schedule.specs.Schedule.{cycle_of}
+use Rattle.schedule.specs.Verdict.{Fault, no_cycle, shared_card, overfull, Verdict, valid, faulty, shares, judge_from}
+use Rattle.header.specs.Limits.{max_cards, max_frames}
+use Rattle.pool_counts.specs.Backlog.{backlog_of}
 use Rattle.plan_faults.specs.declared.Found.{Found}
 use Rattle.plan_faults.specs.declared.Found.TheVariants.{Nothing, CycleMissing, CardShared, PoolOverfull}
 
 -- a list within the limits, and a plan of as many cycles
 pub record Checking (cards cycles : List ℕ) : Type 0 where
   pub same_length : length cycles ≡ length cards
-  pub few : length cards ≤ maxFrames
-  pub each-card : (i : ℕ) → i < length cards → cardOf cards i < maxCards
+  pub few : length cards ≤ max_frames
+  pub each_card : (i : ℕ) → i < length cards → card_of cards i < max_cards
 
 -- the faults of a frame but for its pool: "cycle 0; an earlier frame of the same card in the same cycle"
-abbrev pub cardFault : List ℕ → List ℕ → ℕ → Bool
-cardFault cards cycles i = eqb (cycleOf cycles i) 0 || shares cards cycles i
+abbrev pub card_fault : List ℕ → List ℕ → ℕ → Bool
+card_fault cards cycles i = eqb (cycle_of cycles i) 0 || shares cards cycles i
 
 -- of the first n frames, the lowest position that has one of them; n where none has
-abbrev pub clearOf : List ℕ → List ℕ → ℕ → ℕ
-clearOf cards cycles n = least n (cardFault cards cycles)
+abbrev pub clear_of : List ℕ → List ℕ → ℕ → ℕ
+clear_of cards cycles n = least n (card_fault cards cycles)
 
 -- How many frames are known to have no card fault, c, and how many to have room in the pool, r: enough to tell the first fault. If r is the
 -- smaller, frame r is overfull; if not, frame c has a card fault, or there is no such frame.
 pub record Decided (save : Bool) (m : ℕ) (cards cycles : List ℕ) (c r : ℕ) : Type 0 where
-  pub clear-inside : c ≤ length cards
-  pub clear : (j : ℕ) → j < c → cardFault cards cycles j ≡ false
-  pub card-fault : c ≤ r → c < length cards → cardFault cards cycles c ≡ true
-  pub roomy-inside : r ≤ length cards
-  pub roomy : (j : ℕ) → j < r → backlogOf save cycles j < m
-  pub overfull-next : r < c → m ≤ backlogOf save cycles r
+  pub clear_inside : c ≤ length cards
+  pub clear : (j : ℕ) → j < c → card_fault cards cycles j ≡ false
+  pub has_card_fault : c ≤ r → c < length cards → card_fault cards cycles c ≡ true
+  pub roomy_inside : r ≤ length cards
+  pub roomy : (j : ℕ) → j < r → backlog_of save cycles j < m
+  pub overfull_next : r < c → m ≤ backlog_of save cycles r
 
 -- what is found, from the verdict of the theory, whose faults are found in the same order
-abbrev pub faultAt : ℕ → Fault → Found
-faultAt i noCycle = CycleMissing (record { 0 = i })
-faultAt i sharedCard = CardShared (record { 0 = i })
-faultAt i overfull = PoolOverfull (record { 0 = i })
+abbrev pub fault_at : ℕ → Fault → Found
+fault_at i no_cycle = CycleMissing (record { 0 = i })
+fault_at i shared_card = CardShared (record { 0 = i })
+fault_at i overfull = PoolOverfull (record { 0 = i })
 
-abbrev pub foundIn : Verdict → Found
-foundIn (valid T peak) = Nothing
-foundIn (faulty i fault) = faultAt i fault
+abbrev pub found_in : Verdict → Found
+found_in (valid T peak) = Nothing
+found_in (faulty i fault) = fault_at i fault
 
 -- in the whole list
-unfoldable pub firstFault : Bool → ℕ → List ℕ → List ℕ → Found
-firstFault save m cards cycles = foundIn (judgeFrom (backlogOf save) m cards cycles (length cards) 0 (valid 0 0))
+unfoldable pub first_fault : Bool → ℕ → List ℕ → List ℕ → Found
+first_fault save m cards cycles = found_in (judge_from (backlog_of save) m cards cycles (length cards) 0 (valid 0 0))

@@ -1,23 +1,23 @@
 // A card fault looked for in a table that has, for each cycle up to 4,096, the set of the cards that have a frame in it.
 ghost use Rattle.std.specs.Prelude.{◌≡◌, ◌+◌, ◌^◌, ◌<◌, eqb};
-ghost use Rattle.header.specs.Limits.{maxCards};
-ghost use Rattle.plan_faults.specs.Faults.{Checking, clearOf};
-ghost use Rattle.plan_faults.specs.Searches.{ClearTo, Front, memberOf, Sets, LowCycles};
+ghost use Rattle.header.specs.Limits.{max_cards};
+ghost use Rattle.plan_faults.specs.Faults.{Checking, clear_of};
+ghost use Rattle.plan_faults.specs.Searches.{ClearTo, Front, member_of, Sets, LowCycles};
 
 use counting::Cycle;
 use header::limits;
 
 // Whether a card is in a set.
 fn has(set: u32, card: u8) -> bool
-    requires { card < maxCards }
-    ensures { result ≡ eqb (memberOf set card) 1 }
+    requires { card < max_cards }
+    ensures { result ≡ eqb (member_of set card) 1 }
 {
     (set >> card as u32) % 2 == 1
 }
 
 // The set with a card that is not in it.
 fn with(set: u32, card: u8) -> u32
-    requires { (card < maxCards) × (memberOf set card ≡ 0) }
+    requires { (card < max_cards) × (member_of set card ≡ 0) }
     ensures { result ≡ set + 2 ^ card }
 {
     set + (1u32 << card as u32)
@@ -41,7 +41,7 @@ fn enter(cards: &[u8], plan: &[u16], n: usize, seen: &mut [u32])
 //   seen[c]   the cards of the frames so far that have cycle c
 pub(crate) fn clear(cards: &[u8], plan: &[u16], from: usize, n: usize) -> usize
     requires { Checking cards.now plan.now × LowCycles plan.now × Front cards.now plan.now from n }
-    ensures { result ≡ clearOf cards.now plan.now n }
+    ensures { result ≡ clear_of cards.now plan.now n }
 {
     let mut seen = [0u32; limits::FRAMES + 1];
     enter(cards, plan, from, &mut seen);

@@ -1,7 +1,7 @@
 // The first fault of a plan for a list of cards: the lowest position at fault, and of its faults the first; or nothing.
 ghost use Rattle.std.specs.Prelude.{◌≡◌, true};
-ghost use Rattle.pool_counts.specs.Pools.{roomyOf};
-ghost use Rattle.plan_faults.specs.Faults.{Checking, clearOf, Decided, firstFault};
+ghost use Rattle.pool_counts.specs.Pools.{roomy_of};
+ghost use Rattle.plan_faults.specs.Faults.{Checking, clear_of, Decided, first_fault};
 ghost use Rattle.plan_faults.specs.Searches.{ClearTo, Front, LowCycles};
 
 mod by_sets;
@@ -32,7 +32,7 @@ fn rising_frames(cards: &[u8], plan: &[u16]) -> usize
 // The clear frames among the first n, where the first `from` are: looked up in a table where no cycle is over 4,096, and else searched for.
 fn clear_among(low: bool, cards: &[u8], plan: &[u16], from: usize, n: usize) -> usize
     requires { Checking cards.now plan.now × (low ≡ true → LowCycles plan.now) × Front cards.now plan.now from n }
-    ensures { result ≡ clearOf cards.now plan.now n }
+    ensures { result ≡ clear_of cards.now plan.now n }
 {
     if low {
         return by_sets::clear(cards, plan, from, n);
@@ -43,7 +43,7 @@ fn clear_among(low: bool, cards: &[u8], plan: &[u16], from: usize, n: usize) -> 
 // How many frames are clear, that is, have a cycle that no earlier frame of their card has, up to the first that is not: as far as it matters for the
 // first fault, where `roomy` frames have room in the pool. `low` says that no cycle is over 4,096.
 pub fn clear(save: bool, low: bool, cards: &[u8], plan: &[u16], m: u16, roomy: usize) -> usize
-    requires { Checking cards.now plan.now × (low ≡ true → LowCycles plan.now) × (roomy ≡ roomyOf save m plan.now) }
+    requires { Checking cards.now plan.now × (low ≡ true → LowCycles plan.now) × (roomy ≡ roomy_of save m plan.now) }
     ensures { Decided save m cards.now plan.now result roomy }
 {
     let n = cards.len();
@@ -70,7 +70,7 @@ pub fn first_fault(
     roomy: usize,
 ) -> Found
     requires { Checking cards.now plan.now × Decided save m cards.now plan.now clear roomy }
-    ensures { result ≡ firstFault save m cards.now plan.now }
+    ensures { result ≡ first_fault save m cards.now plan.now }
 {
     if roomy < clear {
         return Found::PoolOverfull(Position(roomy as u16));

@@ -1,7 +1,7 @@
 // A card fault looked for among all earlier frames, for plans of whatever cycles.
 ghost use Rattle.std.specs.Prelude.{◌≡◌, ◌≤◌, ◌<◌, length};
 ghost use Rattle.schedule.specs.Verdict.{shares};
-ghost use Rattle.plan_faults.specs.Faults.{Checking, clearOf};
+ghost use Rattle.plan_faults.specs.Faults.{Checking, clear_of};
 
 use crate::rising;
 use header::limits;
@@ -29,7 +29,7 @@ fn shared(cards: &[u8], plan: &[u16], i: usize) -> bool
 // How many of the first n frames are clear. A frame is searched for only where it is not after all earlier ones of its card.
 pub(crate) fn clear(cards: &[u8], plan: &[u16], n: usize) -> usize
     requires { Checking cards.now plan.now × (n ≤ length cards.now) }
-    ensures { result ≡ clearOf cards.now plan.now n }
+    ensures { result ≡ clear_of cards.now plan.now n }
 {
     let mut latest = [0u16; limits::CARDS];
     let mut i = rising::rising(cards, plan, 0, &mut latest);

@@ -9,45 +9,45 @@ use native.Mathlib.Numerals.{add-one}
 use lib.ListN.{length, get_or, set, replicate, length-replicate, length-set, get_or-replicate}
 use lib.Seq.{get_or-set_same, get_or-set_other}
 use borrow.Author.Tests.{ne_eqb}
-use Rattle.schedule.specs.Schedule.{cycleOf, cyclesIn}
-use Rattle.schedule.specs.Dock.{readFrame}
+use Rattle.schedule.specs.Schedule.{cycle_of, cycles_in}
+use Rattle.schedule.specs.Dock.{read_frame}
 use Rattle.schedule.specs.Drive.{reads_of}
-use Rattle.counting.proofs.Lists.{le-largest}
-use Rattle.header.specs.Limits.{maxFrames}
+use Rattle.counting.proofs.Lists.{le_largest}
+use Rattle.header.specs.Limits.{max_frames}
 use Rattle.run_progress.specs.declared.Progress.{Progress}
 use Rattle.run_progress.specs.Progress.{Tracked}
 use Rattle.plan_run.specs.Cycles.{ReadsMade}
 use Rattle.plan_run.specs.Chain.{heads, nowhere, Small, Unlinked, From, Chains}
-use Rattle.plan_run.proofs.Cycles.{reads_none, reads-next}
+use Rattle.plan_run.proofs.Cycles.{reads_none, reads_next}
 
-pub small-plan : (cycles : List ℕ) {last : ℕ} → length cycles ≤ maxFrames → last ≡ cyclesIn cycles → last ≤ maxFrames → Small cycles
-small-plan cycles few e low = record { few = few; low = λ i l. omega (arith, le-largest cycles i) }
+pub small_plan : (cycles : List ℕ) {last : ℕ} → length cycles ≤ max_frames → last ≡ cycles_in cycles → last ≤ max_frames → Small cycles
+small_plan cycles few e low = record { few = few; low = λ i l. omega (arith, le_largest cycles i) }
 
 -- the tables before the first link
-pub unlinked : Unlinked (replicate heads nowhere) (replicate maxFrames 0)
+pub unlinked : Unlinked (replicate heads nowhere) (replicate max_frames 0)
 unlinked =
     record {
-      first-long = length-replicate {A = ℕ} heads nowhere;
-      after-long = length-replicate {A = ℕ} maxFrames 0;
+      first_long = length-replicate {A = ℕ} heads nowhere;
+      after_long = length-replicate {A = ℕ} max_frames 0;
       empty = λ t l. get_or-replicate heads t nowhere 0 l;
     }
 
-pub link-first : {cycles first after : List ℕ} → Small cycles → Unlinked first after → Chains cycles (length cycles) first after
-link-first {cycles} {first} s u =
+pub link_first : {cycles first after : List ℕ} → Small cycles → Unlinked first after → Chains cycles (length cycles) first after
+link_first {cycles} {first} s u =
     record {
       inside = omega arith;
-      first-long = u.first-long;
-      after-long = u.after-long;
+      first_long = u.first_long;
+      after_long = u.after_long;
       firsts = λ t l. record { none_before = λ j k g h. absurd (omega arith); met = λ n. absurd (n (u.empty t l)) };
       nexts = λ j k g. absurd (omega arith);
     }
 
 -- one frame more before those looked at, of the cycle or of another
-from-here : {cycles : List ℕ} {t i : ℕ} → i < length cycles → cycleOf cycles i ≡ t → From cycles t i i
-from-here l e = record { none_before = λ j k g. absurd (omega arith); met = λ n. (omega arith, l, e) }
+from_here : {cycles : List ℕ} {t i : ℕ} → i < length cycles → cycle_of cycles i ≡ t → From cycles t i i
+from_here l e = record { none_before = λ j k g. absurd (omega arith); met = λ n. (omega arith, l, e) }
 
-from-earlier : {cycles : List ℕ} {t i x : ℕ} → (cycleOf cycles i ≡ t → ⊥) → From cycles t (suc i) x → From cycles t i x
-from-earlier {cycles} {t} {i} {x} n f =
+from_earlier : {cycles : List ℕ} {t i x : ℕ} → (cycle_of cycles i ≡ t → ⊥) → From cycles t (suc i) x → From cycles t i x
+from_earlier {cycles} {t} {i} {x} n f =
     record {
       none_before = λ j k g h e. elim (ℕ_discrete j i) [ yes q ↦ n (rw q at e) | no q ↦ f.none_before j (omega arith) g h e ];
       met = λ m. (let r = f.met m in (omega (arith, r.0), r.1, r.2));
@@ -55,75 +55,75 @@ from-earlier {cycles} {t} {i} {x} n f =
 
 -- frame i - 1 is linked
 module _ {cycles first after : List ℕ} {i : ℕ} (s : Small cycles) (v : Chains cycles i first after) (l : 0 < i) where
-  one-before : i - 1 < length cycles
-  one-before = omega (arith, v.inside)
+  one_before : i - 1 < length cycles
+  one_before = omega (arith, v.inside)
 
-  pub link-place : i - 1 < length after
-  link-place = omega (arith, one-before, s.few, v.after-long)
+  pub link_place : i - 1 < length after
+  link_place = omega (arith, one_before, s.few, v.after_long)
 
-  module _ {c : ℕ} (c-is : c ≡ cycleOf cycles (i - 1)) where
-    pub link-head : c < heads
-    link-head = omega (arith, s.low (i - 1) one-before)
+  module _ {c : ℕ} (c-is : c ≡ cycle_of cycles (i - 1)) where
+    pub link_head : c < heads
+    link_head = omega (arith, s.low (i - 1) one_before)
 
-    next-frame : suc (i - 1) ≡ i
-    next-frame = omega arith
+    next_frame : suc (i - 1) ≡ i
+    next_frame = omega arith
 
-    firsts-next : (t : ℕ) → t < heads → From cycles t (i - 1) (get_or (set first c (i - 1)) t 0)
-    firsts-next t h =
+    firsts_next : (t : ℕ) → t < heads → From cycles t (i - 1) (get_or (set first c (i - 1)) t 0)
+    firsts_next t h =
         elim (ℕ_discrete t c) [
-          | yes e ↦ rw (e, get_or-set_same first c (i - 1) 0 (omega (arith, link-head, v.first-long))) (from-here one-before (sym c-is))
+          | yes e ↦ rw (e, get_or-set_same first c (i - 1) 0 (omega (arith, link_head, v.first_long))) (from_here one_before (sym c-is))
           | no e ↦
               rw (get_or-set_other first c t (i - 1) 0 e)
-              (from-earlier (λ q. e (omega arith)) (rw next-frame (v.firsts t h)))
+              (from_earlier (λ q. e (omega arith)) (rw next_frame (v.firsts t h)))
         ]
 
-    nexts-next :
-        (j : ℕ) → i - 1 ≤ j → j < length cycles → From cycles (cycleOf cycles j) (suc j) (get_or (set after (i - 1) (get_or first c 0)) j 0)
-    nexts-next j k g =
+    nexts_next :
+        (j : ℕ) → i - 1 ≤ j → j < length cycles → From cycles (cycle_of cycles j) (suc j) (get_or (set after (i - 1) (get_or first c 0)) j 0)
+    nexts_next j k g =
         elim (ℕ_discrete j (i - 1)) [
           | yes e ↦
-              rw (e, get_or-set_same after (i - 1) (get_or first c 0) 0 link-place, next-frame, ← c-is) (v.firsts c link-head)
+              rw (e, get_or-set_same after (i - 1) (get_or first c 0) 0 link_place, next_frame, ← c-is) (v.firsts c link_head)
           | no e ↦ rw (get_or-set_other after (i - 1) j (get_or first c 0) 0 e) (v.nexts j (omega arith) g)
         ]
 
-    pub link-next : Chains cycles (i - 1) (set first c (i - 1)) (set after (i - 1) (get_or first c 0))
-    link-next =
+    pub link_next : Chains cycles (i - 1) (set first c (i - 1)) (set after (i - 1) (get_or first c 0))
+    link_next =
         record {
           inside = omega (arith, v.inside);
-          first-long = length-set first c (i - 1) ∙ v.first-long;
-          after-long = length-set after (i - 1) (get_or first c 0) ∙ v.after-long;
-          firsts = firsts-next;
-          nexts = nexts-next;
+          first_long = length-set first c (i - 1) ∙ v.first_long;
+          after_long = length-set after (i - 1) (get_or first c 0) ∙ v.after_long;
+          firsts = firsts_next;
+          nexts = nexts_next;
         }
 
 -- frames of other cycles add no reads
 reads_same :
-    (cycles : List ℕ) (c a b : ℕ) → a ≤ b → ((j : ℕ) → a ≤ j → j < b → cycleOf cycles j ≡ c → ⊥)
+    (cycles : List ℕ) (c a b : ℕ) → a ≤ b → ((j : ℕ) → a ≤ j → j < b → cycle_of cycles j ≡ c → ⊥)
     → reads_of cycles c b ≡ reads_of cycles c a
 reads_same cycles c a zero l h = let e : a ≡ 0 = omega arith in rw e
 reads_same cycles c a (suc b) l h =
     elim (ℕ_discrete a (suc b)) [
       | yes e ↦ rw e
       | no e ↦
-          rw (ne_eqb (cycleOf cycles b) c (h b (omega arith) (omega arith)), append-nil)
+          rw (ne_eqb (cycle_of cycles b) c (h b (omega arith) (omega arith)), append-nil)
           (reads_same cycles c a b (omega arith) (λ j k g. h j k (omega arith)))
     ]
 
 reads_over :
     {cycles : List ℕ} {c a b : ℕ} {p q : Progress} {before memory : List ℕ}
-    → a ≤ b → ((j : ℕ) → a ≤ j → j < b → cycleOf cycles j ≡ c → ⊥)
+    → a ≤ b → ((j : ℕ) → a ≤ j → j < b → cycle_of cycles j ≡ c → ⊥)
     → ReadsMade cycles c a p before q memory → ReadsMade cycles c b p before q memory
 reads_over {cycles} {c} {a} {b} l h v = record { follows = λ m cards u. rw (reads_same cycles c a b l h) (v.follows m cards u) }
 
 -- the reads of cycle c before position x, which is the next one of the chain
 pub record Turn (cycles : List ℕ) (c x : ℕ) (p : Progress) (before : List ℕ) (q : Progress) (memory : List ℕ) : Type 0 where
   pub made : ReadsMade cycles c (min x (length cycles)) p before q memory
-  pub met : (x ≡ nowhere → ⊥) → (x < length cycles) × (cycleOf cycles x ≡ c)
+  pub met : (x ≡ nowhere → ⊥) → (x < length cycles) × (cycle_of cycles x ≡ c)
 
-turn-to :
+turn_to :
     {cycles : List ℕ} {c i x : ℕ} {p q : Progress} {before memory : List ℕ} → Small cycles → i ≤ length cycles → From cycles c i x
     → ReadsMade cycles c i p before q memory → Turn cycles c x p before q memory
-turn-to {cycles} {c} {i} {x} s l f v =
+turn_to {cycles} {c} {i} {x} s l f v =
     let up : i ≤ min x (length cycles) =
     elim (ℕ_discrete x nowhere) [ yes e ↦ omega (arith, s.few) | no e ↦ omega (arith, (f.met e).0) ] in
     record {
@@ -133,31 +133,31 @@ turn-to {cycles} {c} {i} {x} s l f v =
 
 module _
     {cycles first after : List ℕ} {c : ℕ} {p : Progress} {before : List ℕ} (s : Small cycles) (ch : Chains cycles 0 first after)
-    (low : c ≤ maxFrames) where
-  pub turn-first : Turn cycles c (get_or first c 0) p before p before
-  turn-first = turn-to s (omega arith) (ch.firsts c (omega arith)) reads_none
+    (low : c ≤ max_frames) where
+  pub turn_first : Turn cycles c (get_or first c 0) p before p before
+  turn_first = turn_to s (omega arith) (ch.firsts c (omega arith)) reads_none
 
   module _ {x : ℕ} {q : Progress} {memory : List ℕ} (v : Turn cycles c x p before q memory) where
     module _ (n : x ≡ nowhere → ⊥) where
-      pub turn-place : x < length after
-      turn-place = omega (arith, (v.met n).0, s.few, ch.after-long)
+      pub turn_place : x < length after
+      turn_place = omega (arith, (v.met n).0, s.few, ch.after_long)
 
       onward : From cycles c (suc x) (get_or after x 0)
       onward = rw (v.met n).1 at (ch.nexts x (omega arith) (v.met n).0)
 
-      pub turn-less : length cycles - get_or after x 0 < length cycles - x
-      turn-less =
+      pub turn_less : length cycles - get_or after x 0 < length cycles - x
+      turn_less =
           elim (ℕ_discrete (get_or after x 0) nowhere) [
             | yes e ↦ omega (arith, s.few, (v.met n).0)
             | no e ↦ omega (arith, (onward.met e).0, (v.met n).0)
           ]
 
-      pub turn-next :
-          {r : Progress} {later : List ℕ} → Tracked q (readFrame x) memory r later → Turn cycles c (get_or after x 0) p before r later
-      turn-next {r} {later} w =
+      pub turn_next :
+          {r : Progress} {later : List ℕ} → Tracked q (read_frame x) memory r later → Turn cycles c (get_or after x 0) p before r later
+      turn_next {r} {later} w =
           let here : min x (length cycles) ≡ x = omega (arith, (v.met n).0) in
-          let read : ReadsMade cycles c (x + 1) p before r later = reads-next (rw here at v.made) (omega arith) (v.met n).1 refl w in
-          turn-to s (omega (arith, (v.met n).0)) onward (rw (add-one x) at read)
+          let read : ReadsMade cycles c (x + 1) p before r later = reads_next (rw here at v.made) (omega arith) (v.met n).1 refl w in
+          turn_to s (omega (arith, (v.met n).0)) onward (rw (add-one x) at read)
 
     pub turn_last : x ≡ nowhere → ReadsMade cycles c (length cycles) p before q memory
     turn_last e =

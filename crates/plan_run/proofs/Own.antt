@@ -5,52 +5,52 @@ use mathlib.Core.Path.{◌≡◌, refl, ap, ◌∙◌}
 use mathlib.Core.List.{List}
 use lib.ListN.{length}
 use borrow.Author.Tests.{eq-eqb}
-use Rattle.schedule.specs.Schedule.{cyclesIn, CorrectRead}
-use Rattle.schedule.specs.Greedy.{lazyPrefetching}
-use Rattle.schedule.specs.Dock.{emptyDock}
+use Rattle.schedule.specs.Schedule.{cycles_in, CorrectRead}
+use Rattle.schedule.specs.Greedy.{lazy_prefetching}
+use Rattle.schedule.specs.Dock.{empty_dock}
 use Rattle.schedule.specs.Drive.{complete, peak, steps_of}
 use Rattle.schedule.specs.Demand.{Drives}
-use Rattle.schedule.proofs.Main.{read-correct, read_length, correct-drives, peak-same, own-peak}
+use Rattle.schedule.proofs.Main.{read_correct, read_length, correct_drives, peak_same, own_peak}
 use Rattle.header.specs.declared.Header.{Header}
 use Rattle.ticket.specs.Ticket.{accepted, parse}
-use Rattle.ticket.proofs.Main.{accepted-fits}
-use Rattle.plan_run.specs.Numbers.{completeIn, neededIn, numbersOf}
-use Rattle.plan_run.specs.Run.{outcomeOf, run_of, ranOf, Finished}
+use Rattle.ticket.proofs.Main.{accepted_fits}
+use Rattle.plan_run.specs.Numbers.{complete_in, needed_in, numbers_of}
+use Rattle.plan_run.specs.Run.{outcome_of, run_of, ran_of, Finished}
 use Rattle.plan_run.specs.declared.Answer.TheVariants.{Ran}
 use Rattle.plan_run.specs.declared.Outcome.TheVariants.{Complete}
 
 -- a plan of L cycles for an accepted ticket is run
 module _ (t : List ℕ) (h : Header) (cards cycles : List ℕ) (e : parse t ≡ accepted h cards) (l : length cycles ≡ length cards) where
-  pub plan_run : ranOf (parse t) cycles ≡ Ran (run_of h.pool cards cycles)
-  unfolding ranOf
+  pub plan_run : ran_of (parse t) cycles ≡ Ran (run_of h.pool cards cycles)
+  unfolding ran_of
   plan_run = rw (e, eq-eqb (length cycles) (length cards) l)
 
-  pub run-peak : (numbersOf (ranOf (parse t) cycles)).peak ≡ peak h.pool cards (steps_of cycles) emptyDock
-  run-peak = rw plan_run
+  pub run_peak : (numbers_of (ran_of (parse t) cycles)).peak ≡ peak h.pool cards (steps_of cycles) empty_dock
+  run_peak = rw plan_run
 
 module _ (t : List ℕ) (h : Header) (cards : List ℕ) (e : parse t ≡ accepted h cards) where
   abbrev cycles : List ℕ
-  cycles = (lazyPrefetching h.pool cards).cycles
+  cycles = (lazy_prefetching h.pool cards).cycles
 
   pool : 1 ≤ h.pool
-  pool = (accepted-fits t h cards e).pool.0
+  pool = (accepted_fits t h cards e).pool.0
 
   correct : CorrectRead h.pool cards cycles
-  correct = read-correct h.pool cards pool
+  correct = read_correct h.pool cards pool
 
-  drives : Drives h.pool cards cycles (cyclesIn cycles)
-  drives = correct-drives h.pool cards cycles correct
+  drives : Drives h.pool cards cycles (cycles_in cycles)
+  drives = correct_drives h.pool cards cycles correct
 
-  own-outcome : (run_of h.pool cards cycles).outcome ≡ Complete (record { 0 = (lazyPrefetching h.pool cards).T })
-  own-outcome = ap outcomeOf (drives.needs-T ∙ ap complete (read_length h.pool cards pool))
+  own_outcome : (run_of h.pool cards cycles).outcome ≡ Complete (record { 0 = (lazy_prefetching h.pool cards).T })
+  own_outcome = ap outcome_of (drives.needs_T ∙ ap complete (read_length h.pool cards pool))
 
-  pub own-finished : Finished h.pool (length cards) (lazyPrefetching h.pool cards).T (numbersOf (ranOf (parse t) cycles))
-  own-finished =
+  pub own_finished : Finished h.pool (length cards) (lazy_prefetching h.pool cards).T (numbers_of (ran_of (parse t) cycles))
+  own_finished =
       rw (plan_run t h cards cycles e correct.proper.one_each)
       (record {
-        not-refused = refl;
-        breaks-no-rule = drives.breaks-no-rule;
-        delivers-all = (ap completeIn own-outcome, drives.delivers-all);
-        needs-T = ap (λ o. (neededIn o).0) own-outcome;
-        within-pool = rw (peak-same cards cycles h.pool correct) (own-peak h.pool cards pool);
+        not_refused = refl;
+        breaks_no_rule = drives.breaks_no_rule;
+        delivers_all = (ap complete_in own_outcome, drives.delivers_all);
+        needs_T = ap (λ o. (needed_in o).0) own_outcome;
+        within_pool = rw (peak_same cards cycles h.pool correct) (own_peak h.pool cards pool);
       })

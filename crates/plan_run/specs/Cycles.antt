@@ -1,44 +1,44 @@
 -- The cycles of a plan, made one after the other: what each does to the progress of a run, and what the run then answers.
 -- Assumes nothing.
 use Rattle.std.specs.Prelude.{ℕ, ◌-◌, ◌≤◌, ◌<◌, cond, List, ◌++◌, length}
-use Rattle.schedule.specs.Schedule.{cycleOf}
-use Rattle.schedule.specs.Dock.{Step as ModelStep, emptyDock, run}
-use Rattle.schedule.specs.Drive.{complete, unfinished, reads_of, stepsTo}
-use Rattle.plan_run.specs.Run.{outcomeOf}
+use Rattle.schedule.specs.Schedule.{cycle_of}
+use Rattle.schedule.specs.Dock.{Step as ModelStep, empty_dock, run}
+use Rattle.schedule.specs.Drive.{complete, unfinished, reads_of, steps_to}
+use Rattle.plan_run.specs.Run.{outcome_of}
 use Rattle.plan_run.specs.declared.Run.{Run}
 use Rattle.run_progress.specs.declared.Progress.{Progress}
 use Rattle.run_progress.specs.Progress.{Tracks}
 
 -- the last cycle that a plan can have: a plan's cycles have 16 bits
-abbrev pub lastCycle : ℕ
-lastCycle = 65535
+abbrev pub last_cycle : ℕ
+last_cycle = 65535
 
 -- the steps of a plan before cycle c, and of cycle c the reads of the first k frames
-abbrev pub readsTo : List ℕ → ℕ → ℕ → List ModelStep
-readsTo cycles c k = stepsTo cycles (c - 1) ++ reads_of cycles c k
+abbrev pub reads_to : List ℕ → ℕ → ℕ → List ModelStep
+reads_to cycles c k = steps_to cycles (c - 1) ++ reads_of cycles c k
 
 -- After these steps, in which at most t cycles end.
 pub record Reached (m : ℕ) (cards : List ℕ) (steps : List ModelStep) (t : ℕ) (p : Progress) (memory : List ℕ) : Type 0 where
   pub tracks : Tracks m cards steps p memory
-  pub ends : (run m cards steps emptyDock).ended ≤ t
+  pub ends : (run m cards steps empty_dock).ended ≤ t
 
 -- The reads of cycle c, for whichever list and pool the cycles before it have passed.
 pub record ReadsMade (cycles : List ℕ) (c k : ℕ) (p : Progress) (before : List ℕ) (r : Progress) (after : List ℕ) : Type 0 where
   pub follows :
-      (m : ℕ) (cards : List ℕ) → Reached m cards (stepsTo cycles (c - 1)) (c - 1) p before → Reached m cards (readsTo cycles c k) (c - 1) r after
+      (m : ℕ) (cards : List ℕ) → Reached m cards (steps_to cycles (c - 1)) (c - 1) p before → Reached m cards (reads_to cycles c k) (c - 1) r after
 
 -- The cycles after t and up to u.
 pub record CyclesMade (cycles : List ℕ) (t u : ℕ) (p : Progress) (before : List ℕ) (r : Progress) (after : List ℕ) : Type 0 where
-  pub follows : (m : ℕ) (cards : List ℕ) → Reached m cards (stepsTo cycles t) t p before → Reached m cards (stepsTo cycles u) u r after
+  pub follows : (m : ℕ) (cards : List ℕ) → Reached m cards (steps_to cycles t) t p before → Reached m cards (steps_to cycles u) u r after
 
 -- Of the first n frames, those with a cycle after t have one from `next` on.
 abbrev pub NoneBetween : List ℕ → ℕ → ℕ → ℕ → Type 0
-NoneBetween cycles n t next = (i : ℕ) → i < n → t < cycleOf cycles i → next ≤ cycleOf cycles i
+NoneBetween cycles n t next = (i : ℕ) → i < n → t < cycle_of cycles i → next ≤ cycle_of cycles i
 
 -- `next` is the first cycle after t that a frame has, or the last one that a plan can have.
 pub record Next (cycles : List ℕ) (t next : ℕ) : Type 0 where
   pub none_between : NoneBetween cycles (length cycles) t next
-  pub after : t < lastCycle → t < next
+  pub after : t < last_cycle → t < next
 
 -- what a run answers
 abbrev pub answered : Progress → Run
@@ -47,6 +47,6 @@ answered p =
       broken = p.dock.broken;
       delivered = p.dock.delivered;
       ended = record { 0 = p.dock.ended };
-      outcome = outcomeOf (cond p.complete (complete p.needed) unfinished);
+      outcome = outcome_of (cond p.complete (complete p.needed) unfinished);
       peak = p.peak;
     }

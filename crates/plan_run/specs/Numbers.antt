@@ -18,25 +18,25 @@ pub record Numbers : Type 0 where
   pub needed : Cycle
   pub peak : ℕ
 
-abbrev pub completeIn : Outcome → Bool
-completeIn (Complete n) = true
-completeIn Unfinished = false
+abbrev pub complete_in : Outcome → Bool
+complete_in (Complete n) = true
+complete_in Unfinished = false
 
-abbrev pub neededIn : Outcome → Cycle
-neededIn (Complete n) = n
-neededIn Unfinished = record { 0 = 0 }
+abbrev pub needed_in : Outcome → Cycle
+needed_in (Complete n) = n
+needed_in Unfinished = record { 0 = 0 }
 
-abbrev pub numbersOf : Answer → Numbers
-numbersOf (Ran run) =
+abbrev pub numbers_of : Answer → Numbers
+numbers_of (Ran run) =
     record {
       refusal = 0;
       broken = run.broken;
-      complete = completeIn run.outcome;
+      complete = complete_in run.outcome;
       delivered = run.delivered;
       ended = run.ended;
-      needed = neededIn run.outcome;
+      needed = needed_in run.outcome;
       peak = run.peak;
     }
 -- "Beside a refusal's number, other numbers of the answer are 0"
-numbersOf (Refused k) =
+numbers_of (Refused k) =
     record { refusal = k; broken = false; complete = false; delivered = 0; ended = record { 0 = 0 }; needed = record { 0 = 0 }; peak = 0 }

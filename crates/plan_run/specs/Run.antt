@@ -1,7 +1,7 @@
 -- A plan's run on the dock (document 01, "The dock"): what `run_plan` answers, for every ticket and every plan.
 -- Assumes nothing.
 use Rattle.std.specs.Prelude.{ℕ, ◌≤◌, ◌≡◌, true, false, cond, List, eqb, length}
-use Rattle.schedule.specs.Dock.{emptyDock, run}
+use Rattle.schedule.specs.Dock.{empty_dock, run}
 use Rattle.schedule.specs.Drive.{complete, unfinished, Outcome as ModelOutcome, outcome, peak, steps_of}
 use Rattle.ticket.specs.Ticket.{Parsed, accepted, refused}
 use Rattle.plan_run.specs.Numbers.{Numbers}
@@ -12,31 +12,31 @@ use Rattle.plan_run.specs.declared.Answer.{Answer}
 use Rattle.plan_run.specs.declared.Answer.TheVariants.{Ran, Refused}
 
 -- the outcome of a run, in the code's words
-abbrev pub outcomeOf : ModelOutcome → Outcome
-outcomeOf (complete n) = Complete (record { 0 = n })
-outcomeOf unfinished = Unfinished
+abbrev pub outcome_of : ModelOutcome → Outcome
+outcome_of (complete n) = Complete (record { 0 = n })
+outcome_of unfinished = Unfinished
 
 -- the run of a plan's list of steps from the empty dock
 abbrev pub run_of : ℕ → List ℕ → List ℕ → Run
 run_of m cards cycles =
     record {
-      broken = (run m cards (steps_of cycles) emptyDock).broken;
-      delivered = (run m cards (steps_of cycles) emptyDock).delivered;
-      ended = record { 0 = (run m cards (steps_of cycles) emptyDock).ended };
-      outcome = outcomeOf (outcome m cards (steps_of cycles) emptyDock);
-      peak = peak m cards (steps_of cycles) emptyDock;
+      broken = (run m cards (steps_of cycles) empty_dock).broken;
+      delivered = (run m cards (steps_of cycles) empty_dock).delivered;
+      ended = record { 0 = (run m cards (steps_of cycles) empty_dock).ended };
+      outcome = outcome_of (outcome m cards (steps_of cycles) empty_dock);
+      peak = peak m cards (steps_of cycles) empty_dock;
     }
 
 -- The ticket's own refusal, then 11 for a plan that has not exactly L cycles; otherwise the run.
-unfoldable pub ranOf : Parsed → List ℕ → Answer
-ranOf (accepted h cards) cycles = cond (eqb (length cycles) (length cards)) (Ran (run_of h.pool cards cycles)) (Refused 11)
-ranOf (refused k) cycles = Refused k
+unfoldable pub ran_of : Parsed → List ℕ → Answer
+ran_of (accepted h cards) cycles = cond (eqb (length cycles) (length cards)) (Ran (run_of h.pool cards cycles)) (Refused 11)
+ran_of (refused k) cycles = Refused k
 
 -- What the numbers of an answer say of a plan that does what demand 3 asks of a read plan of T cycles, for a pool of m and so many frames: it
 -- breaks no rule, hands over everything in exactly T cycles, and never holds more than the pool right after the reads of a cycle.
 pub record Finished (m frames T : ℕ) (n : Numbers) : Type 0 where
-  pub not-refused : n.refusal ≡ 0
-  pub breaks-no-rule : n.broken ≡ false
-  pub delivers-all : (n.complete ≡ true) × (n.delivered ≡ frames)
-  pub needs-T : n.needed.0 ≡ T
-  pub within-pool : n.peak ≤ m
+  pub not_refused : n.refusal ≡ 0
+  pub breaks_no_rule : n.broken ≡ false
+  pub delivers_all : (n.complete ≡ true) × (n.delivered ≡ frames)
+  pub needs_T : n.needed.0 ≡ T
+  pub within_pool : n.peak ≤ m

@@ -1,8 +1,8 @@
 // The cycles of a plan whose cycles are up to 4,096, along chains: of each cycle its first frame, and of each frame the next one of its
 // cycle. A run then looks at each frame once, where src/cycle.rt, which has no limit, looks at the whole plan for each cycle with reads.
 ghost use Rattle.std.specs.Prelude.{◌≡◌, ◌≤◌, length};
-ghost use Rattle.schedule.specs.Schedule.{cyclesIn};
-ghost use Rattle.header.specs.Limits.{maxFrames};
+ghost use Rattle.schedule.specs.Schedule.{cycles_in};
+ghost use Rattle.header.specs.Limits.{max_frames};
 ghost use Rattle.plan_run.specs.Cycles.{ReadsMade, CyclesMade};
 ghost use Rattle.plan_run.specs.Chain.{Small, Unlinked, Chains};
 
@@ -38,7 +38,7 @@ fn reads(
     after: &[u16],
     memory: &mut [u8],
 ) -> Progress
-    requires { (cycle.0 ≤ maxFrames) × Small plan.now × Chains plan.now 0 first.now after.now }
+    requires { (cycle.0 ≤ max_frames) × Small plan.now × Chains plan.now 0 first.now after.now }
     ensures { ReadsMade plan.now cycle.0 (length plan.now) p memory.old result memory.new }
 {
     let mut q = p;
@@ -60,7 +60,7 @@ fn linked_to(
     after: &[u16],
     memory: &mut [u8],
 ) -> Progress
-    requires { (last.0 ≤ maxFrames) × Small plan.now × Chains plan.now 0 first.now after.now }
+    requires { (last.0 ≤ max_frames) × Small plan.now × Chains plan.now 0 first.now after.now }
     ensures { CyclesMade plan.now 0 last.0 p memory.old result memory.new }
 {
     let end = last.0;
@@ -76,7 +76,7 @@ fn linked_to(
 
 // All cycles of a plan, along chains where the tables have a place for each.
 pub(crate) fn all_cycles(p: Progress, plan: &[u16], last: Cycle, memory: &mut [u8]) -> Progress
-    requires { (length plan.now ≤ maxFrames) × (last.0 ≡ cyclesIn plan.now) }
+    requires { (length plan.now ≤ max_frames) × (last.0 ≡ cycles_in plan.now) }
     ensures { CyclesMade plan.now 0 last.0 p memory.old result memory.new }
 {
     if limits::MAX_FRAMES < last.0 {

@@ -1,6 +1,6 @@
 // The cycles of a plan, one after the other: the reads of its frames in list order, then its end.
 ghost use Rattle.std.specs.Prelude.{◌≡◌, ◌-◌, ◌≤◌, ◌<◌, length};
-ghost use Rattle.header.specs.Limits.{maxFrames};
+ghost use Rattle.header.specs.Limits.{max_frames};
 ghost use Rattle.plan_run.specs.Cycles.{ReadsMade, CyclesMade, Next};
 
 use counting::{Cycle, Position};
@@ -8,7 +8,7 @@ use dock::Step;
 use run_progress::Progress;
 
 fn position(i: usize) -> Position
-    requires { i ≤ maxFrames }
+    requires { i ≤ max_frames }
     ensures { result.0 ≡ i }
 {
     Position(i as u16)
@@ -16,7 +16,7 @@ fn position(i: usize) -> Position
 
 // The reads of a cycle, in list order.
 fn reads(p: Progress, plan: &[u16], cycle: Cycle, memory: &mut [u8]) -> Progress
-    requires { (1 ≤ cycle.0) × (length plan.now ≤ maxFrames) }
+    requires { (1 ≤ cycle.0) × (length plan.now ≤ max_frames) }
     ensures { ReadsMade plan.now cycle.0 (length plan.now) p memory.old result memory.new }
 {
     let c = cycle.0;
@@ -58,7 +58,7 @@ fn next_cycle(plan: &[u16], t: Cycle) -> Cycle
 
 // One cycle: the reads of its frames, which are looked for only where `next` says that there are any, and its end.
 fn one_cycle(p: Progress, plan: &[u16], cycle: Cycle, next: Cycle, memory: &mut [u8]) -> Progress
-    requires { (1 ≤ cycle.0) × (length plan.now ≤ maxFrames) × Next plan.now (cycle.0 - 1) next.0 }
+    requires { (1 ≤ cycle.0) × (length plan.now ≤ max_frames) × Next plan.now (cycle.0 - 1) next.0 }
     ensures { CyclesMade plan.now (cycle.0 - 1) cycle.0 p memory.old result memory.new }
 {
     if cycle.0 < next.0 {
@@ -82,7 +82,7 @@ fn next_after(plan: &[u16], t: Cycle, next: Cycle) -> Cycle
 
 // The cycles of a plan from the first to `last`.
 pub(crate) fn cycles_to(p: Progress, plan: &[u16], last: Cycle, memory: &mut [u8]) -> Progress
-    requires { length plan.now ≤ maxFrames }
+    requires { length plan.now ≤ max_frames }
     ensures { CyclesMade plan.now 0 last.0 p memory.old result memory.new }
 {
     let end = last.0;

@@ -2,8 +2,8 @@
 ghost use Rattle.std.specs.Prelude.{◌≡◌, take};
 ghost use Rattle.ticket.specs.Ticket.{accepted, parse};
 ghost use Rattle.ticket.specs.Grounds.{Fits};
-ghost use Rattle.plan_run.specs.Numbers.{numbersOf};
-ghost use Rattle.plan_run.specs.Run.{ranOf};
+ghost use Rattle.plan_run.specs.Numbers.{numbers_of};
+ghost use Rattle.plan_run.specs.Run.{ran_of};
 
 mod answers;
 mod chain;
@@ -39,7 +39,7 @@ pub enum Answer {
 // Runs a plan on the dock of a list that is read: the cards of its frames stand at the front of `memory`.
 fn run_list(h: Header, plan: &[u16], memory: &mut [u8]) -> Answer
     requires { Fits h (take h.frames memory.old) }
-    ensures { result ≡ ranOf (accepted h (take h.frames memory.old)) plan.now }
+    ensures { result ≡ ran_of (accepted h (take h.frames memory.old)) plan.now }
 {
     let n = h.frames as usize;
     if plan.len() != n {
@@ -53,8 +53,8 @@ fn run_list(h: Header, plan: &[u16], memory: &mut [u8]) -> Answer
 
 // Runs a plan on the dock of a ticket's list and pool, whatever the ticket's mode.
 pub fn run_plan(ticket: &[u8], plan: &[u16]) -> Answer
-    ensures answer { result ≡ ranOf (parse ticket.now) plan.now }
-    ensures numbers { numbersOf result ≡ numbersOf (ranOf (parse ticket.now) plan.now) }
+    ensures answer { result ≡ ran_of (parse ticket.now) plan.now }
+    ensures numbers { numbers_of result ≡ numbers_of (ran_of (parse ticket.now) plan.now) }
 {
     let mut card = [0u8; limits::FRAMES];
     let answer = ticket::read(ticket, &mut card);

@@ -6,18 +6,18 @@ use mathlib.Core.List.{List, map}
 use mathlib.Core.Logic.{inl, inr}
 use lib.ListN.{length}
 use borrow.Author.Tests.{le-ltb}
-use Rattle.schedule.specs.Greedy.{saveAndKeep, greedyWriting, lazyPrefetching}
+use Rattle.schedule.specs.Greedy.{save_and_keep, greedy_writing, lazy_prefetching}
 use Rattle.text.specs.Text.{digit, digits, number, is_line}
-use Rattle.text.specs.Hex.{digitOf, hex}
-use Rattle.header.specs.Editions.{known, secondDigits}
-use Rattle.header.specs.Heading.{headerOf, withinLimits, headerAnswer, heading}
+use Rattle.text.specs.Hex.{digit_of, hex}
+use Rattle.header.specs.Editions.{known, second_digits}
+use Rattle.header.specs.Heading.{header_of, within_limits, header_answer, heading}
 use Rattle.header.specs.Limits.{ReadOrSave}
 use Rattle.header.specs.declared.Header.{Header}
-use Rattle.frame_lines.specs.Lines.{cardAt, secondAt, secondBefore, lineFault, linesFault, partFault}
+use Rattle.frame_lines.specs.Lines.{card_at, second_at, second_before, line_fault, lines_fault, part_fault}
 use Rattle.ticket.specs.Ticket.{parse, accepted}
-use Rattle.ticket.specs.Print.{lineTexts, ticketText}
-use Rattle.mode_plans.specs.Plans.{planFor}
-use Rattle.mode_plans.proofs.Plans.{plan-read, plan-save}
+use Rattle.ticket.specs.Print.{line_texts, ticket_text}
+use Rattle.mode_plans.specs.Plans.{plan_for}
+use Rattle.mode_plans.proofs.Plans.{plan_read, plan_save}
 use Rattle.planner.specs.Plan.{plan_of}
 use Rattle.planner.specs.OneFrame.{Alike, Planning, asked, expected, examples}
 use Rattle.planner.specs.declared.Answer.TheVariants.{Planned}
@@ -25,20 +25,20 @@ use Rattle.planner.specs.declared.Answer.TheVariants.{Planned}
 -- an accepted ticket, with room in the buffer
 planned :
     (t : List ℕ) (h : Header) (cards : List ℕ) → parse t ≡ accepted h cards → (places : ℕ) → length cards ≤ places
-    → plan_of (parse t) places ≡ Planned (record { 0 = (planFor h.mode h.pool cards).T })
+    → plan_of (parse t) places ≡ Planned (record { 0 = (plan_for h.mode h.pool cards).T })
 unfolding plan_of
 planned t h cards e places room = rw (e, le-ltb places (length cards) room)
 
 -- what holds of the plans of two lists in both modes
 module _ (Apart : ℕ → ℕ → Type 0) (m : ℕ) (cards cards' : List ℕ) where
-  of-mode :
+  of_mode :
       (mode : ℕ) → ReadOrSave mode
-      → Apart (lazyPrefetching m cards).T (lazyPrefetching m cards').T → Apart (greedyWriting m cards).T (greedyWriting m cards').T
-      → Apart (planFor mode m cards).T (planFor mode m cards').T
-  of-mode mode which read save =
+      → Apart (lazy_prefetching m cards).T (lazy_prefetching m cards').T → Apart (greedy_writing m cards).T (greedy_writing m cards').T
+      → Apart (plan_for mode m cards).T (plan_for mode m cards').T
+  of_mode mode which read save =
       elim which [
-        | inl e ↦ rw (plan-read mode m cards e, plan-read mode m cards' e) read
-        | inr e ↦ rw (plan-save mode m cards e, plan-save mode m cards' e) save
+        | inl e ↦ rw (plan_read mode m cards e, plan_read mode m cards' e) read
+        | inr e ↦ rw (plan_save mode m cards e, plan_save mode m cards' e) save
       ]
 
 -- holds of what `plan` answers for two tickets with these lists
@@ -46,21 +46,21 @@ module _
     (Apart : ℕ → ℕ → Type 0) (t u : List ℕ) (h g : Header) (cards cards' : List ℕ)
     (e : parse t ≡ accepted h cards) (f : parse u ≡ accepted g cards') (alike : Alike h g)
     (p q : ℕ) (room : length cards ≤ p) (room' : length cards' ≤ q) where
-  pub two-calls :
-      Apart (lazyPrefetching h.pool cards).T (lazyPrefetching h.pool cards').T
-      → Apart (greedyWriting h.pool cards).T (greedyWriting h.pool cards').T → Planning t u p q Apart
-  two-calls read save =
+  pub two_calls :
+      Apart (lazy_prefetching h.pool cards).T (lazy_prefetching h.pool cards').T
+      → Apart (greedy_writing h.pool cards).T (greedy_writing h.pool cards').T → Planning t u p q Apart
+  two_calls read save =
       let one-mode : h.mode ≡ g.mode = alike.mode in
       let one-pool : h.pool ≡ g.pool = alike.pool in
       record {
-        T = (planFor h.mode h.pool cards).T;
-        U = (planFor h.mode h.pool cards').T;
+        T = (plan_for h.mode h.pool cards).T;
+        U = (plan_for h.mode h.pool cards').T;
         first = planned t h cards e p room;
         second = rw (one-mode, one-pool) (planned u g cards' f q room');
-        apart = of-mode Apart h.pool cards cards' h.mode alike.read-or-save read save;
+        apart = of_mode Apart h.pool cards cards' h.mode alike.read_or_save read save;
       }
 
-pub examples-hold : map asked examples ≡ map expected examples
-unfolding saveAndKeep greedyWriting lazyPrefetching digit digits number is_line digitOf hex known secondDigits headerOf withinLimits headerAnswer heading
-    cardAt secondAt secondBefore lineFault linesFault partFault parse lineTexts ticketText plan_of
-examples-hold = refl
+pub examples_hold : map asked examples ≡ map expected examples
+unfolding save_and_keep greedy_writing lazy_prefetching digit digits number is_line digit_of hex known second_digits header_of within_limits header_answer heading
+    card_at second_at second_before line_fault lines_fault part_fault parse line_texts ticket_text plan_of
+examples_hold = refl

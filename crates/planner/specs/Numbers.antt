@@ -10,7 +10,7 @@ pub record Numbers : Type 0 where
   pub refusal : ℕ
   pub cycles : Cycle
 
-abbrev pub numbersOf : Answer → Numbers
-numbersOf (Planned T) = record { refusal = 0; cycles = T }
+abbrev pub numbers_of : Answer → Numbers
+numbers_of (Planned T) = record { refusal = 0; cycles = T }
 -- "Beside a refusal's number, other numbers of the answer are 0"
-numbersOf (Refused k) = record { refusal = k; cycles = record { 0 = 0 } }
+numbers_of (Refused k) = record { refusal = k; cycles = record { 0 = 0 } }

@@ -4,23 +4,23 @@
 use Rattle.std.specs.Prelude.{ℕ, ◌≡◌, cond, List, ltb, length}
 use Rattle.counting.specs.Count.{written}
 use Rattle.ticket.specs.Ticket.{Parsed, accepted, refused}
-use Rattle.mode_plans.specs.Plans.{planFor}
+use Rattle.mode_plans.specs.Plans.{plan_for}
 use Rattle.planner.specs.declared.Answer.{Answer}
 use Rattle.planner.specs.declared.Answer.TheVariants.{Planned, Refused}
 
 -- "plan buffer has fewer than L places": 10, after the ticket's own
 unfoldable pub plan_of : Parsed → ℕ → Answer
 plan_of (accepted h cards) places =
-    cond (ltb places (length cards)) (Refused 10) (Planned (record { 0 = (planFor h.mode h.pool cards).T }))
+    cond (ltb places (length cards)) (Refused 10) (Planned (record { 0 = (plan_for h.mode h.pool cards).T }))
 plan_of (refused k) places = Refused k
 
 -- The buffer afterwards: "A plan fills the first L places, and later places keep their content." A refusal changes nothing.
-unfoldable pub bufferAfter : Parsed → List ℕ → List ℕ
-bufferAfter (accepted h cards) before =
-    cond (ltb (length before) (length cards)) before (written (planFor h.mode h.pool cards).cycles before)
-bufferAfter (refused k) before = before
+unfoldable pub buffer_after : Parsed → List ℕ → List ℕ
+buffer_after (accepted h cards) before =
+    cond (ltb (length before) (length cards)) before (written (plan_for h.mode h.pool cards).cycles before)
+buffer_after (refused k) before = before
 
 -- What one call did: the answer and the buffer, both equal to the definitions above.
 pub record Answered (ticket : Parsed) (before after : List ℕ) (r : Answer) : Type 0 where
   pub answer : r ≡ plan_of ticket (length before)
-  pub buffer : after ≡ bufferAfter ticket before
+  pub buffer : after ≡ buffer_after ticket before

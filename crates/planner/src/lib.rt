@@ -2,8 +2,8 @@
 ghost use Rattle.std.specs.Prelude.{◌≡◌, length, take};
 ghost use Rattle.ticket.specs.Ticket.{accepted, parse};
 ghost use Rattle.ticket.specs.Grounds.{Fits};
-ghost use Rattle.planner.specs.Plan.{plan_of, bufferAfter, Answered};
-ghost use Rattle.planner.specs.Numbers.{numbersOf};
+ghost use Rattle.planner.specs.Plan.{plan_of, buffer_after, Answered};
+ghost use Rattle.planner.specs.Numbers.{numbers_of};
 ghost use Rattle.planner.specs.Demand3.{Demand3};
 
 use counting::Cycle;
@@ -32,9 +32,9 @@ fn plan_list(h: Header, card: &[u8], out: &mut [u16]) -> Answer
 // A refusal changes nothing. `demand` is demand 3, about the T answered and the plan that now stands in the buffer.
 pub fn plan(ticket: &[u8], out: &mut [u16]) -> Answer
     ensures answer { result ≡ plan_of (parse ticket.now) (length out.old) }
-    ensures buffer { out.new ≡ bufferAfter (parse ticket.now) out.old }
-    ensures numbers { numbersOf result ≡ numbersOf (plan_of (parse ticket.now) (length out.old)) }
-    ensures demand { Demand3 ticket.now (numbersOf result).refusal (numbersOf result).cycles.0 out.new }
+    ensures buffer { out.new ≡ buffer_after (parse ticket.now) out.old }
+    ensures numbers { numbers_of result ≡ numbers_of (plan_of (parse ticket.now) (length out.old)) }
+    ensures demand { Demand3 ticket.now (numbers_of result).refusal (numbers_of result).cycles.0 out.new }
 {
     let mut card = [0u8; limits::FRAMES];
     let answer = ticket::read(ticket, &mut card);

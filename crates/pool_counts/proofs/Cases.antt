@@ -4,5 +4,5 @@ use mathlib.Core.Path.{◌≡◌, refl}
 use mathlib.Core.List.{map}
 use Rattle.pool_counts.specs.Cases.{answered, expected, cases}
 
-pub cases-hold : map answered cases ≡ map expected cases
-cases-hold = refl
+pub cases_hold : map answered cases ≡ map expected cases
+cases_hold = refl

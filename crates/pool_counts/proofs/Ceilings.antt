@@ -5,24 +5,24 @@ use mathlib.Core.Path.{◌≡◌}
 use mathlib.Core.List.{List}
 use native.Mathlib.Omega.{arith}
 use native.Mathlib.Decide.{ℕ_discrete}
-use Rattle.schedule.specs.Schedule.{cycleOf}
+use Rattle.schedule.specs.Schedule.{cycle_of}
 
 -- one more than the largest cycle of the first i frames, 0 for none
 pub record Ceiling (cycles : List ℕ) (i ceiling : ℕ) : Type 0 where
-  pub under : (j : ℕ) → j < i → cycleOf cycles j < ceiling
-  pub met : 1 ≤ ceiling → (j : ℕ) × (j < i) × (suc (cycleOf cycles j) ≡ ceiling)
+  pub under : (j : ℕ) → j < i → cycle_of cycles j < ceiling
+  pub met : 1 ≤ ceiling → (j : ℕ) × (j < i) × (suc (cycle_of cycles j) ≡ ceiling)
 
-pub ceiling-first : (cycles : List ℕ) → Ceiling cycles 0 0
-ceiling-first cycles = record { under = λ j l. absurd (omega arith); met = λ l. absurd (omega arith) }
+pub ceiling_first : (cycles : List ℕ) → Ceiling cycles 0 0
+ceiling_first cycles = record { under = λ j l. absurd (omega arith); met = λ l. absurd (omega arith) }
 
-module _ {cycles : List ℕ} {i ceiling : ℕ} (v : Ceiling cycles i ceiling) {c : ℕ} (c-is : c ≡ cycleOf cycles i) where
+module _ {cycles : List ℕ} {i ceiling : ℕ} (v : Ceiling cycles i ceiling) {c : ℕ} (c-is : c ≡ cycle_of cycles i) where
   -- frame i is ahead
   module _ (h : ceiling ≤ c) where
-    pub ahead : (j : ℕ) → j < i → cycleOf cycles j < cycleOf cycles i
+    pub ahead : (j : ℕ) → j < i → cycle_of cycles j < cycle_of cycles i
     ahead j k = omega (arith, v.under j k)
 
-    pub ceiling-up : Ceiling cycles (i + 1) (c + 1)
-    ceiling-up =
+    pub ceiling_up : Ceiling cycles (i + 1) (c + 1)
+    ceiling_up =
         record {
           under = λ j k. elim (ℕ_discrete j i) [ yes e ↦ rw e (omega arith) | no e ↦ omega (arith, v.under j (omega arith)) ];
           met = λ k. (i, omega arith, omega arith);
@@ -30,11 +30,11 @@ module _ {cycles : List ℕ} {i ceiling : ℕ} (v : Ceiling cycles i ceiling) {c
 
   -- or it is not
   module _ (h : c < ceiling) where
-    pub covering : (j : ℕ) × (j < i) × (cycleOf cycles i ≤ cycleOf cycles j)
+    pub covering : (j : ℕ) × (j < i) × (cycle_of cycles i ≤ cycle_of cycles j)
     covering = let r = v.met (omega arith) in (r.0, r.1, omega (arith, r.2))
 
-    pub ceiling-stays : Ceiling cycles (i + 1) ceiling
-    ceiling-stays =
+    pub ceiling_stays : Ceiling cycles (i + 1) ceiling
+    ceiling_stays =
         let r = v.met (omega arith) in
         record {
           under = λ j k. elim (ℕ_discrete j i) [ yes e ↦ rw e (omega arith) | no e ↦ v.under j (omega arith) ];

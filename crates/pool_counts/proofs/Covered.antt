@@ -9,33 +9,33 @@ use lib.Dec.{leb, ltb}
 use lib.ListN.{length}
 use borrow.Author.Tests.{lt-ltb, le-leb, ltb-true, leb-true}
 use Rattle.counting.specs.Count.{bit}
-use Rattle.counting.proofs.Bits.{and_left, and_right, bit-mono}
-use Rattle.counting.proofs.Sums.{sum_mono, sum-longer}
-use Rattle.schedule.specs.Schedule.{cycleOf, oBacklog, iBacklog}
+use Rattle.counting.proofs.Bits.{and_left, and_right, bit_mono}
+use Rattle.counting.proofs.Sums.{sum_mono, sum_longer}
+use Rattle.schedule.specs.Schedule.{cycle_of, o_backlog, i_backlog}
 
 module _ (cycles : List ℕ) where
   abbrev cyc : ℕ → ℕ
-  cyc = cycleOf cycles
+  cyc = cycle_of cycles
 
   -- a frame after one with the same or a later cycle
-  pub backlog-covered : (i j : ℕ) → j < i → cyc i ≤ cyc j → iBacklog cycles i ≤ iBacklog cycles j
-  backlog-covered i j l h =
+  pub backlog_covered : (i j : ℕ) → j < i → cyc i ≤ cyc j → i_backlog cycles i ≤ i_backlog cycles j
+  backlog_covered i j l h =
       sum_mono (length cycles) (λ k. bit (ltb i k && leb (cyc k) (cyc i))) (λ k. bit (ltb j k && leb (cyc k) (cyc j)))
       (λ k inside.
-      bit-mono (ltb i k && leb (cyc k) (cyc i)) (ltb j k && leb (cyc k) (cyc j))
+      bit_mono (ltb i k && leb (cyc k) (cyc i)) (ltb j k && leb (cyc k) (cyc j))
       (λ e.
       let a : i < k = ltb-true i k (and_left (ltb i k) (leb (cyc k) (cyc i)) e) in
       let b : cyc k ≤ cyc i = leb-true (cyc k) (cyc i) (and_right (ltb i k) (leb (cyc k) (cyc i)) e) in
       rw (lt-ltb j k (omega arith), le-leb (cyc k) (cyc j) (omega arith))))
 
   -- a frame before one with the same or an earlier cycle
-  pub save-covered : (i j : ℕ) → i < j → cyc j ≤ cyc i → oBacklog cycles i ≤ oBacklog cycles j
-  save-covered i j l h =
+  pub save_covered : (i j : ℕ) → i < j → cyc j ≤ cyc i → o_backlog cycles i ≤ o_backlog cycles j
+  save_covered i j l h =
       omega (
         arith,
         sum_mono i (λ k. bit (leb (cyc i) (cyc k))) (λ k. bit (leb (cyc j) (cyc k)))
             (λ k g.
-            bit-mono (leb (cyc i) (cyc k)) (leb (cyc j) (cyc k))
+            bit_mono (leb (cyc i) (cyc k)) (leb (cyc j) (cyc k))
             (λ e. let a : cyc i ≤ cyc k = leb-true (cyc i) (cyc k) e in le-leb (cyc j) (cyc k) (omega arith))),
-        sum-longer i j (λ k. bit (leb (cyc j) (cyc k))) (omega arith),
+        sum_longer i j (λ k. bit (leb (cyc j) (cyc k))) (omega arith),
       )

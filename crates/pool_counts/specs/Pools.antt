@@ -2,26 +2,26 @@
 -- Assumes nothing.
 use Rattle.std.specs.Prelude.{ℕ, suc, Bool, true, false, List, leb, length}
 use Rattle.counting.specs.Count.{tabulate, largest, least}
-use Rattle.schedule.specs.Schedule.{iBacklog}
-use Rattle.pool_counts.specs.Backlog.{backlogOf}
+use Rattle.schedule.specs.Schedule.{i_backlog}
+use Rattle.pool_counts.specs.Backlog.{backlog_of}
 
 -- the lowest position whose pool is overfull; as many as there are frames where none is
-abbrev pub roomyOf : Bool → ℕ → List ℕ → ℕ
-roomyOf save m cycles = least (length cycles) (λ i. leb m (backlogOf save cycles i))
+abbrev pub roomy_of : Bool → ℕ → List ℕ → ℕ
+roomy_of save m cycles = least (length cycles) (λ i. leb m (backlog_of save cycles i))
 
 -- a number after all cycles that a plan can have: "Foreign cycles reach 65,535."
-abbrev pub pastAll : ℕ
-pastAll = 65536
+abbrev pub past_all : ℕ
+past_all = 65536
 
 -- the buffers that a read needs in the cycle of frame i: one for the frame itself, and one for each of its backlog
-abbrev pub buffersFor : List ℕ → ℕ → ℕ
-buffersFor cycles i = suc (iBacklog cycles i)
+abbrev pub buffers_for : List ℕ → ℕ → ℕ
+buffers_for cycles i = suc (i_backlog cycles i)
 
 -- the most that one of the first n frames needs
-abbrev pub peakAmong : List ℕ → ℕ → ℕ
-peakAmong cycles n = largest (tabulate n (buffersFor cycles))
+abbrev pub peak_among : List ℕ → ℕ → ℕ
+peak_among cycles n = largest (tabulate n (buffers_for cycles))
 
 -- the peak of a read; a save has none
-abbrev pub peakOf : Bool → List ℕ → ℕ
-peakOf true cycles = 0
-peakOf false cycles = peakAmong cycles (length cycles)
+abbrev pub peak_of : Bool → List ℕ → ℕ
+peak_of true cycles = 0
+peak_of false cycles = peak_among cycles (length cycles)

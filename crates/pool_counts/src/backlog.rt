@@ -1,8 +1,8 @@
 // The count in the pool rule: the frames that share the pool with frame i until its cycle. It ends when m of them are found.
 ghost use Rattle.std.specs.Prelude.{◌≡◌, ◌≤◌, ◌<◌, min, leb, length};
 ghost use Rattle.counting.specs.Count.{least};
-ghost use Rattle.header.specs.Limits.{maxFrames};
-ghost use Rattle.pool_counts.specs.Backlog.{counts, count_first, countUpTo, lookedAt};
+ghost use Rattle.header.specs.Limits.{max_frames};
+ghost use Rattle.pool_counts.specs.Backlog.{counts, count_first, count_up_to, looked_at};
 ghost use Rattle.pool_counts.specs.Looking.{Looking};
 
 use counting::Cycle;
@@ -23,7 +23,7 @@ fn counts(save: bool, own: u16, c: u16) -> bool
 
 // How many of the cycles count.
 fn count_all(save: bool, own: Cycle, others: &[u16]) -> u16
-    requires { length others.now ≤ maxFrames }
+    requires { length others.now ≤ max_frames }
     ensures { result ≡ count_first save own.0 others.now (length others.now) }
 {
     let n = others.len();
@@ -45,7 +45,7 @@ const PART: usize = 1024;
 
 // Where the part that begins at k ends.
 fn part_end(k: usize, n: usize) -> usize
-    requires { (k < n) × (n ≤ maxFrames) }
+    requires { (k < n) × (n ≤ max_frames) }
     ensures { (k < result) × (result ≤ n) }
 {
     if n - k < PART { n } else { k + PART }
@@ -53,7 +53,7 @@ fn part_end(k: usize, n: usize) -> usize
 
 // Looks at whole parts, up to the one in which m are found.
 fn whole_parts(save: bool, own: Cycle, others: &[u16], m: u16) -> Counted
-    requires { length others.now ≤ maxFrames }
+    requires { length others.now ≤ max_frames }
     ensures { Looking save own.0 others.now m result.looked result.count }
 {
     let n = others.len();
@@ -79,7 +79,7 @@ fn whole_parts(save: bool, own: Cycle, others: &[u16], m: u16) -> Counted
 
 // Looks at the cycles in their order until m of them count: at whole parts first, then at one after the other.
 fn count_up_to(save: bool, own: Cycle, others: &[u16], m: u16) -> Counted
-    requires { length others.now ≤ maxFrames }
+    requires { length others.now ≤ max_frames }
     ensures count { result.count ≡ min (count_first save own.0 others.now (length others.now)) m }
     ensures looked { result.looked ≡ least (length others.now) (λ k. leb m (count_first save own.0 others.now k)) }
 {
@@ -109,9 +109,9 @@ fn count_up_to(save: bool, own: Cycle, others: &[u16], m: u16) -> Counted
 
 // The count of frame i: a save's rule has the frames before it, a read's those after it.
 pub fn backlog(save: bool, plan: &[u16], i: usize, m: u16) -> Counted
-    requires { (i < length plan.now) × (length plan.now ≤ maxFrames) }
-    ensures count { result.count ≡ countUpTo save m plan.now i }
-    ensures looked { result.looked ≡ lookedAt save m plan.now i }
+    requires { (i < length plan.now) × (length plan.now ≤ max_frames) }
+    ensures count { result.count ≡ count_up_to save m plan.now i }
+    ensures looked { result.looked ≡ looked_at save m plan.now i }
 {
     let own = Cycle(plan[i]);
     if save {

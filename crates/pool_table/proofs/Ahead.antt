@@ -10,13 +10,13 @@ use lib.Dec.{leb, ltb}
 use lib.ListN.{length}
 use borrow.Author.Tests.{lt-ltb, le-ltb, le-leb}
 use Rattle.counting.specs.Count.{bit}
-use Rattle.schedule.specs.Schedule.{cycleOf, iBacklog}
-use Rattle.counting.proofs.Sums.{sum-cong, sum-add, all-below}
-use Rattle.pool_table.specs.Table.{cyclesUpTo}
+use Rattle.schedule.specs.Schedule.{cycle_of, i_backlog}
+use Rattle.counting.proofs.Sums.{sum_cong, sum_add, all_below}
+use Rattle.pool_table.specs.Table.{cycles_up_to}
 
 module _ (cycles : List ℕ) where
   abbrev cyc : ℕ → ℕ
-  cyc = cycleOf cycles
+  cyc = cycle_of cycles
 
   -- a frame with a later cycle than all earlier frames
   module _ (i : ℕ) (l : i < length cycles) (ahead : (j : ℕ) → j < i → cyc j < cyc i) where
@@ -29,11 +29,11 @@ module _ (cycles : List ℕ) where
           | no h ↦ rw (le-ltb j (suc i) (omega arith), lt-ltb i j (omega arith)) (omega arith)
         ]
 
-    pub backlog-ahead : cyclesUpTo cycles (cyc i) ≡ suc i + iBacklog cycles i
-    backlog-ahead =
+    pub backlog_ahead : cycles_up_to cycles (cyc i) ≡ suc i + i_backlog cycles i
+    backlog_ahead =
         omega (
           arith,
-          sum-cong (length cycles) (λ j. bit (leb (cyc j) (cyc i))) (λ j. bit (ltb j (suc i)) + bit (ltb i j && leb (cyc j) (cyc i))) (λ j h. up_to j),
-          sum-add (length cycles) (λ j. bit (ltb j (suc i))) (λ j. bit (ltb i j && leb (cyc j) (cyc i))),
-          all-below (length cycles) (suc i) l,
+          sum_cong (length cycles) (λ j. bit (leb (cyc j) (cyc i))) (λ j. bit (ltb j (suc i)) + bit (ltb i j && leb (cyc j) (cyc i))) (λ j h. up_to j),
+          sum_add (length cycles) (λ j. bit (ltb j (suc i))) (λ j. bit (ltb i j && leb (cyc j) (cyc i))),
+          all_below (length cycles) (suc i) l,
         )

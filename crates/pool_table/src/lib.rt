@@ -1,7 +1,7 @@
 // The pools of a plan whose cycles are up to 4,096, in one pass over its frames and without counting for each: how many frames have room, up
 // to the first that has not, and the peak of a read.
 ghost use Rattle.std.specs.Prelude.{◌≡◌, ◌≤◌, length};
-ghost use Rattle.pool_counts.specs.Pools.{roomyOf, peakOf};
+ghost use Rattle.pool_counts.specs.Pools.{roomy_of, peak_of};
 ghost use Rattle.pool_table.specs.Table.{Low};
 
 mod reads;
@@ -15,8 +15,8 @@ use pool_counts::Room;
 // The pools of a plan whose cycles are up to `top`.
 pub fn pools(save: bool, plan: &[u16], top: Cycle, m: u16) -> Room
     requires { Low plan.now top.0 × (1 ≤ m) }
-    ensures roomy { result.roomy ≡ roomyOf save m plan.now }
-    ensures peak { result.roomy ≡ length plan.now → result.peak ≡ peakOf save plan.now }
+    ensures roomy { result.roomy ≡ roomy_of save m plan.now }
+    ensures peak { result.roomy ≡ length plan.now → result.peak ≡ peak_of save plan.now }
 {
     let mut table = [0u16; limits::FRAMES + 1];
     if save {

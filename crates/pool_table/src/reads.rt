@@ -2,7 +2,7 @@
 // A frame that is not ahead of all earlier ones has no larger count than one of those. So the lowest overfull frame is ahead of all earlier
 // ones, and there what it needs, a buffer for itself and one for each frame that counts, is a difference of the table's entry and its position.
 ghost use Rattle.std.specs.Prelude.{◌≡◌, false};
-ghost use Rattle.pool_counts.specs.Pools.{roomyOf, peakAmong};
+ghost use Rattle.pool_counts.specs.Pools.{roomy_of, peak_among};
 ghost use Rattle.pool_table.specs.Table.{Table};
 
 use counting::Cycle;
@@ -13,8 +13,8 @@ use pool_counts::Room;
 //   peak      the most buffers that one of the frames so far needs
 pub(crate) fn roomy(plan: &[u16], top: Cycle, table: &[u16], m: u16) -> Room
     requires { Table plan.now table.now top.0 }
-    ensures roomy { result.roomy ≡ roomyOf false m plan.now }
-    ensures peak { result.peak ≡ peakAmong plan.now result.roomy }
+    ensures roomy { result.roomy ≡ roomy_of false m plan.now }
+    ensures peak { result.peak ≡ peak_among plan.now result.roomy }
 {
     let n = plan.len();
     let mut ceiling: usize = 0;

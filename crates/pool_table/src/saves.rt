@@ -1,7 +1,7 @@
 // The pools of a save plan, frame by frame in list order.
 ghost use Rattle.std.specs.Prelude.{◌≡◌, true, ◌≤◌};
-ghost use Rattle.header.specs.Limits.{maxFrames};
-ghost use Rattle.pool_counts.specs.Pools.{roomyOf};
+ghost use Rattle.header.specs.Limits.{max_frames};
+ghost use Rattle.pool_counts.specs.Pools.{roomy_of};
 ghost use Rattle.pool_table.specs.Table.{Zeroed, Low};
 
 use counting::Cycle;
@@ -18,8 +18,8 @@ fn wide(count: u16) -> usize
 //   full     how many cycles, from 0 on, are full: of the frames so far, m or more are in each of them or after it
 //   above    how many frames so far are after the full cycles
 pub(crate) fn roomy(plan: &[u16], m: u16, due: &mut [u16]) -> usize
-    requires { Zeroed due.old × Low plan.now maxFrames × (1 ≤ m) }
-    ensures { result ≡ roomyOf true m plan.now }
+    requires { Zeroed due.old × Low plan.now max_frames × (1 ≤ m) }
+    ensures { result ≡ roomy_of true m plan.now }
 {
     let n = plan.len();
     let pool = wide(m);

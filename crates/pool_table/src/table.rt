@@ -1,12 +1,12 @@
 // The table of how many frames of a plan have a cycle up to each cycle.
-ghost use Rattle.header.specs.Limits.{maxFrames};
+ghost use Rattle.header.specs.Limits.{max_frames};
 ghost use Rattle.pool_table.specs.Table.{Zeroed, Low, Tallied, Table};
 
 use counting::Cycle;
 
 // Counts the frames of each cycle.
 fn tally(plan: &[u16], table: &mut [u16])
-    requires { Zeroed table.old × Low plan.now maxFrames }
+    requires { Zeroed table.old × Low plan.now max_frames }
     ensures { Tallied plan.now table.new }
 {
     let n = plan.len();

@@ -1,15 +1,15 @@
 // The lines of a printed text, written into a lent buffer: that of a refusal, and that of a frame.
 ghost use Rattle.std.specs.Prelude.{◌≡◌, ◌+◌, ◌^◌, ◌≤◌, ◌<◌, length};
 ghost use Rattle.std.proofs.lemmas.List.Edits.{sets};
-ghost use Rattle.text.specs.Hex.{digitTexts, hex};
-ghost use Rattle.print_lines.specs.Lines.{frameLine, refusalText};
+ghost use Rattle.text.specs.Hex.{digit_texts, hex};
+ghost use Rattle.print_lines.specs.Lines.{frame_line, refusal_text};
 ghost use Rattle.print_lines.specs.Put.{Put};
 
 use counting::{Cycle, Position};
 
 // FF and the number.
 pub fn refusal(number: u8, out: &mut [u8]) -> usize
-    ensures { Put (refusalText number) out.old out.new result }
+    ensures { Put (refusal_text number) out.old out.new result }
 {
     if out.len() < 5 {
         return 0;
@@ -23,7 +23,7 @@ pub fn refusal(number: u8, out: &mut [u8]) -> usize
 
 // A position's 4 digits, at a place. 3 digits are enough for every position of a list, so the first is 0 and is not looked up.
 fn put_position(digit: &[u8; 16], out: &mut [u8], at: usize, position: Position)
-    requires { (digit.now ≡ digitTexts) × (at + 4 ≤ length out.old) × (position.0 < 16 ^ 3) }
+    requires { (digit.now ≡ digit_texts) × (at + 4 ≤ length out.old) × (position.0 < 16 ^ 3) }
     ensures { out.new ≡ sets out.old at (hex 4 position.0) }
 {
     out[at] = b'0';
@@ -40,8 +40,8 @@ pub fn frame_line(
     card: u8,
     cycle: Cycle,
 )
-    requires { (digit.now ≡ digitTexts) × (at + 11 ≤ length out.old) × (position.0 < 16 ^ 3) }
-    ensures { out.new ≡ sets out.old at (frameLine position.0 card cycle.0) }
+    requires { (digit.now ≡ digit_texts) × (at + 11 ≤ length out.old) × (position.0 < 16 ^ 3) }
+    ensures { out.new ≡ sets out.old at (frame_line position.0 card cycle.0) }
 {
     put_position(digit, out, at, position);
     text::write::put2(digit, out, at + 4, card);

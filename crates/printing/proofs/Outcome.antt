@@ -8,13 +8,13 @@ use lib.ListN.{length, drop, length-append}
 use lib.Seq.{length-take-le}
 use native.Mathlib.Omega.{arith}
 use Rattle.counting.proofs.Bits.{by_cases}
-use Rattle.print_lines.specs.Put.{bytesIn, bufferAfter, Put}
+use Rattle.print_lines.specs.Put.{bytes_in, buffer_after, Put}
 use Rattle.printing.specs.Printed.{Front}
 
 pub contract :
     (text before after : List ℕ) (r : ℕ) → Put text before after r
-    → (r ≡ bytesIn text (length before)) × ((after ≡ bufferAfter text before) × Front r after)
-unfolding bytesIn bufferAfter
+    → (r ≡ bytes_in text (length before)) × ((after ≡ buffer_after text before) × Front r after)
+unfolding bytes_in buffer_after
 contract text before after r p =
     let within : r ≤ length after =
     rw (p.answer, p.buffer)

@@ -3,15 +3,15 @@ ghost use Rattle.std.specs.Prelude.{◌≡◌, length, take, replicate};
 ghost use Rattle.counting.specs.Count.{written};
 ghost use Rattle.ticket.specs.Ticket.{accepted};
 ghost use Rattle.ticket.specs.Grounds.{Fits};
-ghost use Rattle.print_lines.specs.Put.{bytesIn, bufferAfter, Put};
+ghost use Rattle.print_lines.specs.Put.{bytes_in, buffer_after, Put};
 ghost use Rattle.printing.specs.Printed.{text_of, printed, Front};
-ghost use Rattle.printing.specs.Sizes.{inputBytes, longestText};
+ghost use Rattle.printing.specs.Sizes.{input_bytes, longest_text};
 
 use header::{Header, limits};
 
 mod lines;
 
-// The bytes of its input that the program looks at: they settle every ticket (`front-settles`, proofs/Main.antt).
+// The bytes of its input that the program looks at: they settle every ticket (`front_settles`, proofs/Main.antt).
 pub const INPUT: usize = 65536;
 
 // The bytes of the longest text: the line of T, and a line for each of 4,096 frames.
@@ -19,16 +19,16 @@ pub const LONGEST: usize = 5 + 11 * limits::FRAMES;
 
 // A buffer for the program's input, all zeros.
 pub fn input_buffer() -> [u8; INPUT]
-    ensures long { inputBytes ≡ length result }
-    ensures zeros { result ≡ replicate inputBytes 0 }
+    ensures long { input_bytes ≡ length result }
+    ensures zeros { result ≡ replicate input_bytes 0 }
 {
     [0; INPUT]
 }
 
 // A buffer with room for every text, all zeros.
 pub fn text_buffer() -> [u8; LONGEST]
-    ensures long { longestText ≡ length result }
-    ensures zeros { result ≡ replicate longestText 0 }
+    ensures long { longest_text ≡ length result }
+    ensures zeros { result ≡ replicate longest_text 0 }
 {
     [0; LONGEST]
 }
@@ -47,8 +47,8 @@ fn print_list(h: Header, card: &[u8], out: &mut [u8]) -> usize
 // Prints the plan of a ticket, or its refusal, over the front of `out`, and answers how many bytes the text has; later places keep their
 // content. Where `out` has no room for the whole text, nothing is printed and the answer is 0.
 pub fn print(ticket: &[u8], out: &mut [u8]) -> usize
-    ensures answer { result ≡ bytesIn (printed ticket.now) (length out.old) }
-    ensures buffer { out.new ≡ bufferAfter (printed ticket.now) out.old }
+    ensures answer { result ≡ bytes_in (printed ticket.now) (length out.old) }
+    ensures buffer { out.new ≡ buffer_after (printed ticket.now) out.old }
     ensures front { Front result out.new }
 {
     let mut card = [0u8; limits::FRAMES];

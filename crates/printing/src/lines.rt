@@ -1,15 +1,15 @@
 // The text of a plan: T, and a line for each frame.
 ghost use Rattle.std.specs.Prelude.{◌≡◌, ◌≤◌, length};
-ghost use Rattle.header.specs.Limits.{maxFrames};
+ghost use Rattle.header.specs.Limits.{max_frames};
 ghost use Rattle.print_lines.specs.Put.{Put};
-ghost use Rattle.printing.specs.Printed.{planText};
+ghost use Rattle.printing.specs.Printed.{plan_text};
 
 use counting::{Cycle, Position};
 
 // T, and for each frame a line with its position, its card and its cycle.
 pub(crate) fn plan(cards: &[u8], cycles: &[u16], t: Cycle, out: &mut [u8]) -> usize
-    requires { (length cards.now ≤ maxFrames) × (length cycles.now ≡ length cards.now) }
-    ensures { Put (planText cards.now (record { cycles = cycles.entry.now; T = t.0 })) out.old out.new result }
+    requires { (length cards.now ≤ max_frames) × (length cycles.now ≡ length cards.now) }
+    ensures { Put (plan_text cards.now (record { cycles = cycles.entry.now; T = t.0 })) out.old out.new result }
 {
     let n = cards.len();
     if out.len() < 5 + 11 * n {

@@ -1,6 +1,6 @@
 // A run followed step by step: the dock, whether all frames are handed over, the cycles needed for that, and the peak.
 ghost use Rattle.std.specs.Prelude.{◌≡◌, cond};
-ghost use Rattle.schedule.specs.Drive.{isEnd};
+ghost use Rattle.schedule.specs.Drive.{is_end};
 ghost use Rattle.dock.specs.State.{step_of};
 ghost use Rattle.run_progress.specs.Progress.{Tracked, at_start};
 
@@ -17,7 +17,7 @@ pub struct Progress {
 
 // Whether a step is the end of a cycle.
 fn is_end(step: Step) -> bool
-    ensures { result ≡ isEnd (step_of step) }
+    ensures { result ≡ is_end (step_of step) }
 {
     match step {
         Step::End => true,

@@ -9,130 +9,130 @@ use lib.Dec.{leb}
 use lib.ListN.{length, drop, replicate, length-set, length-append, length-drop, length-replicate, length-map, get_or-append}
 use borrow.Author.Tests.{leb-true}
 use Rattle.counting.specs.Count.{written}
-use Rattle.counting.proofs.Bits.{by-test, and_left, and_right}
-use Rattle.counting.proofs.Parts.{one-more-below}
-use Rattle.header.specs.Limits.{maxCards, maxPool, maxFrames}
-use Rattle.greedy_pool.proofs.Left.{left-shorter, left-same-length, left-all}
+use Rattle.counting.proofs.Bits.{by_test, and_left, and_right}
+use Rattle.counting.proofs.Parts.{one_more_below}
+use Rattle.header.specs.Limits.{max_cards, max_pool, max_frames}
+use Rattle.greedy_pool.proofs.Left.{left_shorter, left_same_length, left_all}
 use Rattle.saver.specs.declared.Saver.{Saver}
 use Rattle.saver.specs.declared.Answer.{Answer}
-use Rattle.saver.specs.Calls.{position, numbers, newSaver, noSaver, entered, cardsLeft, positionsLeft, afterCycle, closingBegun}
-use Rattle.saver.specs.Calls.{newOf, saveOf, closeOf, Given, opened, saved, closed}
+use Rattle.saver.specs.Calls.{position, numbers, new_saver, no_saver, entered, cards_left, positions_left, after_cycle, closing_begun}
+use Rattle.saver.specs.Calls.{new_of, save_of, close_of, Given, opened, saved, closed}
 use Rattle.saver.specs.Formed.{Formed}
-use Rattle.saver.proofs.Tables.{numbers_of, numbers-set}
-use Rattle.saver.proofs.Answers.{save-cases, close-cases}
+use Rattle.saver.proofs.Tables.{numbers_of, numbers_set}
+use Rattle.saver.proofs.Answers.{save_cases, close_cases}
 
-formed-new : (cards pool : ℕ) (closing : Bool) → 1 ≤ cards → cards ≤ maxCards → 1 ≤ pool → pool ≤ maxPool
-    → Formed (newSaver cards pool closing)
-formed-new cards pool closing a b h k =
+formed_new : (cards pool : ℕ) (closing : Bool) → 1 ≤ cards → cards ≤ max_cards → 1 ≤ pool → pool ≤ max_pool
+    → Formed (new_saver cards pool closing)
+formed_new cards pool closing a b h k =
     record {
-      few-cards = b;
-      small-pool = k;
-      some-pool = h;
-      in-pool = omega arith;
-      all-taken = omega arith;
-      few-taken = omega arith;
-      each-card = λ i l. absurd (omega arith);
-      each-position = λ i l. absurd (omega arith);
-      cards-long = length-replicate {A = ℕ} maxPool 0;
-      positions-long = length-replicate maxPool (position 0);
+      few_cards = b;
+      small_pool = k;
+      some_pool = h;
+      fits_pool = omega arith;
+      all_taken = omega arith;
+      few_taken = omega arith;
+      each_card = λ i l. absurd (omega arith);
+      each_position = λ i l. absurd (omega arith);
+      cards_long = length-replicate {A = ℕ} max_pool 0;
+      positions_long = length-replicate max_pool (position 0);
     }
 
-formed-entered : (s : Saver) (card : ℕ) → Formed s → card < s.cards → s.taken < maxFrames → s.waiting < s.pool → Formed (entered s card)
-formed-entered s card f c t w =
+formed_entered : (s : Saver) (card : ℕ) → Formed s → card < s.cards → s.taken < max_frames → s.waiting < s.pool → Formed (entered s card)
+formed_entered s card f c t w =
     record {
-      few-cards = f.few-cards;
-      small-pool = f.small-pool;
-      some-pool = f.some-pool;
-      in-pool = omega arith;
-      all-taken = omega (arith, f.all-taken);
-      few-taken = omega arith;
-      each-card = one-more-below s.card s.waiting card s.cards (omega (arith, f.cards-long, f.small-pool)) f.each-card c;
-      each-position =
-          rw (numbers-set s.position s.waiting s.taken)
-          (one-more-below (numbers s.position) s.waiting s.taken (s.taken + 1)
-          (omega (arith, length-map s.position (λ p. p.0), f.positions-long, f.small-pool))
-          (λ i l. omega (arith, f.each-position i l))
+      few_cards = f.few_cards;
+      small_pool = f.small_pool;
+      some_pool = f.some_pool;
+      fits_pool = omega arith;
+      all_taken = omega (arith, f.all_taken);
+      few_taken = omega arith;
+      each_card = one_more_below s.card s.waiting card s.cards (omega (arith, f.cards_long, f.small_pool)) f.each_card c;
+      each_position =
+          rw (numbers_set s.position s.waiting s.taken)
+          (one_more_below (numbers s.position) s.waiting s.taken (s.taken + 1)
+          (omega (arith, length-map s.position (λ p. p.0), f.positions_long, f.small_pool))
+          (λ i l. omega (arith, f.each_position i l))
           (omega arith));
-      cards-long = length-set s.card s.waiting card ∙ f.cards-long;
-      positions-long = length-set s.position s.waiting (position s.taken) ∙ f.positions-long;
+      cards_long = length-set s.card s.waiting card ∙ f.cards_long;
+      positions_long = length-set s.position s.waiting (position s.taken) ∙ f.positions_long;
     }
 
 -- a list that fits stands at the front of an empty table
-table-long : (l : List ℕ) → length l ≤ maxPool → length (written l (replicate maxPool 0)) ≡ maxPool
-table-long l h =
+table_long : (l : List ℕ) → length l ≤ max_pool → length (written l (replicate max_pool 0)) ≡ max_pool
+table_long l h =
     omega (
       arith,
-      length-append l (drop (length l) (replicate maxPool 0)),
-      length-drop (length l) (replicate {A = ℕ} maxPool 0),
-      length-replicate {A = ℕ} maxPool 0,
+      length-append l (drop (length l) (replicate max_pool 0)),
+      length-drop (length l) (replicate {A = ℕ} max_pool 0),
+      length-replicate {A = ℕ} max_pool 0,
     )
 
-pub formed-cycle : (s : Saver) → Formed s → 1 ≤ s.waiting → Formed (afterCycle s) × ((afterCycle s).waiting < s.waiting)
-formed-cycle s f some =
-    let fewer : length (cardsLeft s) < s.waiting = left-shorter s.card s.card s.waiting some in
-    let same : length (cardsLeft s) ≡ length (positionsLeft s) = left-same-length s.card s.card (numbers s.position) s.waiting in (
+pub formed_cycle : (s : Saver) → Formed s → 1 ≤ s.waiting → Formed (after_cycle s) × ((after_cycle s).waiting < s.waiting)
+formed_cycle s f some =
+    let fewer : length (cards_left s) < s.waiting = left_shorter s.card s.card s.waiting some in
+    let same : length (cards_left s) ≡ length (positions_left s) = left_same_length s.card s.card (numbers s.position) s.waiting in (
       record {
-        few-cards = f.few-cards;
-        small-pool = f.small-pool;
-        some-pool = f.some-pool;
-        in-pool = omega (arith, f.in-pool);
-        all-taken = omega (arith, f.all-taken);
-        few-taken = f.few-taken;
-        each-card = λ i l. rw (get_or-append (cardsLeft s) _ 0 i l) (left-all s.card s.card s.waiting s.cards f.each-card i l);
-        each-position = λ i l.
-            rw (numbers_of (written (positionsLeft s) (replicate maxPool 0)), get_or-append (positionsLeft s) _ 0 i (omega arith))
-            (left-all s.card (numbers s.position) s.waiting s.taken f.each-position i (omega arith));
-        cards-long = table-long (cardsLeft s) (omega (arith, f.in-pool, f.small-pool));
-        positions-long =
-            length-map (written (positionsLeft s) (replicate maxPool 0)) position ∙ table-long (positionsLeft s) (omega (arith, f.in-pool, f.small-pool));
+        few_cards = f.few_cards;
+        small_pool = f.small_pool;
+        some_pool = f.some_pool;
+        fits_pool = omega (arith, f.fits_pool);
+        all_taken = omega (arith, f.all_taken);
+        few_taken = f.few_taken;
+        each_card = λ i l. rw (get_or-append (cards_left s) _ 0 i l) (left_all s.card s.card s.waiting s.cards f.each_card i l);
+        each_position = λ i l.
+            rw (numbers_of (written (positions_left s) (replicate max_pool 0)), get_or-append (positions_left s) _ 0 i (omega arith))
+            (left_all s.card (numbers s.position) s.waiting s.taken f.each_position i (omega arith));
+        cards_long = table_long (cards_left s) (omega (arith, f.fits_pool, f.small_pool));
+        positions_long =
+            length-map (written (positions_left s) (replicate max_pool 0)) position ∙ table_long (positions_left s) (omega (arith, f.fits_pool, f.small_pool));
       },
       fewer,
     )
 
-pub formed-closing : (s : Saver) → Formed s → Formed (closingBegun s)
-formed-closing s f =
+pub formed_closing : (s : Saver) → Formed s → Formed (closing_begun s)
+formed_closing s f =
     record {
-      few-cards = f.few-cards;
-      small-pool = f.small-pool;
-      some-pool = f.some-pool;
-      in-pool = f.in-pool;
-      all-taken = f.all-taken;
-      few-taken = f.few-taken;
-      each-card = f.each-card;
-      each-position = f.each-position;
-      cards-long = f.cards-long;
-      positions-long = f.positions-long;
+      few_cards = f.few_cards;
+      small_pool = f.small_pool;
+      some_pool = f.some_pool;
+      fits_pool = f.fits_pool;
+      all_taken = f.all_taken;
+      few_taken = f.few_taken;
+      each_card = f.each_card;
+      each_position = f.each_position;
+      cards_long = f.cards_long;
+      positions_long = f.positions_long;
     }
 
-formed-refused : Formed noSaver
-formed-refused = formed-new 1 1 true (omega arith) (omega arith) (omega arith) (omega arith)
+formed_refused : Formed no_saver
+formed_refused = formed_new 1 1 true (omega arith) (omega arith) (omega arith) (omega arith)
 
-pub formed-opened : (cards pool : ℕ) → Formed (newOf cards pool).saver
-unfolding newOf
-formed-opened cards pool =
-    by-test (λ (r : Answer). Formed r.saver) (leb 1 cards && leb cards maxCards) _ _
-    (λ c. by-test (λ (r : Answer). Formed r.saver) (leb 1 pool && leb pool maxPool) _ _
-    (λ m. formed-new cards pool false
-    (leb-true 1 cards (and_left (leb 1 cards) (leb cards maxCards) c))
-    (leb-true cards maxCards (and_right (leb 1 cards) (leb cards maxCards) c))
-    (leb-true 1 pool (and_left (leb 1 pool) (leb pool maxPool) m))
-    (leb-true pool maxPool (and_right (leb 1 pool) (leb pool maxPool) m)))
-    (λ m. formed-refused))
-    (λ c. formed-refused)
+pub formed_opened : (cards pool : ℕ) → Formed (new_of cards pool).saver
+unfolding new_of
+formed_opened cards pool =
+    by_test (λ (r : Answer). Formed r.saver) (leb 1 cards && leb cards max_cards) _ _
+    (λ c. by_test (λ (r : Answer). Formed r.saver) (leb 1 pool && leb pool max_pool) _ _
+    (λ m. formed_new cards pool false
+    (leb-true 1 cards (and_left (leb 1 cards) (leb cards max_cards) c))
+    (leb-true cards max_cards (and_right (leb 1 cards) (leb cards max_cards) c))
+    (leb-true 1 pool (and_left (leb 1 pool) (leb pool max_pool) m))
+    (leb-true pool max_pool (and_right (leb 1 pool) (leb pool max_pool) m)))
+    (λ m. formed_refused))
+    (λ c. formed_refused)
 
-pub formed-save : (s : Saver) (card : ℕ) → Formed s → Formed (saveOf s card).saver
-formed-save s card f =
-    save-cases s card (λ (r : Answer). Formed r.saver) (λ a. f) (λ b. f) (λ d. f)
-    (λ a b d e. formed-entered s card f b d e)
+pub formed_save : (s : Saver) (card : ℕ) → Formed s → Formed (save_of s card).saver
+formed_save s card f =
+    save_cases s card (λ (r : Answer). Formed r.saver) (λ a. f) (λ b. f) (λ d. f)
+    (λ a b d e. formed_entered s card f b d e)
     (λ a b d e.
-    let next : Formed (afterCycle s) × ((afterCycle s).waiting < s.waiting) = formed-cycle s f (omega (arith, f.some-pool)) in
-    formed-entered (afterCycle s) card next.0 b d (omega (arith, next.1, f.in-pool)))
+    let next : Formed (after_cycle s) × ((after_cycle s).waiting < s.waiting) = formed_cycle s f (omega (arith, f.some_pool)) in
+    formed_entered (after_cycle s) card next.0 b d (omega (arith, next.1, f.fits_pool)))
 
-pub formed-close : (s : Saver) → Formed s → Formed (closeOf s).saver
-formed-close s f =
-    close-cases s (λ (r : Answer). Formed r.saver) (λ a. f) (λ a. (formed-cycle (closingBegun s) (formed-closing s f) a).0)
+pub formed_close : (s : Saver) → Formed s → Formed (close_of s).saver
+formed_close s f =
+    close_cases s (λ (r : Answer). Formed r.saver) (λ a. f) (λ a. (formed_cycle (closing_begun s) (formed_closing s f) a).0)
 
-pub given-formed : {s : Saver} → Given s → Formed s
-given-formed (opened cards pool) = formed-opened cards pool
-given-formed (saved s card g) = formed-save s card (given-formed g)
-given-formed (closed s g) = formed-close s (given-formed g)
+pub given_formed : {s : Saver} → Given s → Formed s
+given_formed (opened cards pool) = formed_opened cards pool
+given_formed (saved s card g) = formed_save s card (given_formed g)
+given_formed (closed s g) = formed_close s (given_formed g)

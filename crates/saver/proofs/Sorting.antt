@@ -11,48 +11,48 @@ use lib.Dec.{eqb}
 use lib.ListN.{length, get_or, set, replicate, length-append, length-replicate, get_or-map}
 use borrow.Author.Tests.{eq-eqb, ne_eqb}
 use Rattle.counting.specs.Count.{tabulate, written}
-use Rattle.counting.specs.Frames.{cardOf}
+use Rattle.counting.specs.Frames.{card_of}
 use Rattle.counting.specs.declared.Position.{Position}
-use Rattle.counting.proofs.Lists.{get_d_tabulate, tabulate-cong, set-tabulate}
-use Rattle.counting.proofs.Parts.{written-set}
-use Rattle.header.specs.Limits.{maxCards, maxPool}
-use Rattle.greedy_pool.specs.Pool.{none, isOldest, left, writes}
-use Rattle.greedy_pool.proofs.Left.{left-no-longer, left-same-length, writes-none}
+use Rattle.counting.proofs.Lists.{get_or_tabulate, tabulate_cong, set_tabulate}
+use Rattle.counting.proofs.Parts.{written_set}
+use Rattle.header.specs.Limits.{max_cards, max_pool}
+use Rattle.greedy_pool.specs.Pool.{none, is_oldest, left, writes}
+use Rattle.greedy_pool.proofs.Left.{left_no_longer, left_same_length, writes_none}
 use Rattle.saver.specs.declared.Saver.{Saver}
-use Rattle.saver.specs.Calls.{position, cycle, numbers, cycleOn}
+use Rattle.saver.specs.Calls.{position, cycle, numbers, cycle_on}
 use Rattle.saver.specs.Formed.{Formed}
-use Rattle.counting.proofs.Parts.{map-set}
+use Rattle.counting.proofs.Parts.{map_set}
 
 -- `entries` has what each card writes of those frames; the n others stand at the front of the new tables.
 pub record Sorting (s : Saver) (entries : List Position) (cards : List ℕ) (positions : List Position) (n i : ℕ) : Type 0 where
   pub inside : i ≤ s.waiting
   pub count : n ≡ length (left s.card s.card i)
-  pub cards-left : cards ≡ written (left s.card s.card i) (replicate maxPool 0)
-  pub positions-left : positions ≡ map position (written (left s.card (numbers s.position) i) (replicate maxPool 0))
-  pub entries-so-far : entries ≡ map position (tabulate maxCards (λ k. writes k s.card (numbers s.position) i))
+  pub cards_left : cards ≡ written (left s.card s.card i) (replicate max_pool 0)
+  pub positions_left : positions ≡ map position (written (left s.card (numbers s.position) i) (replicate max_pool 0))
+  pub entries_so_far : entries ≡ map position (tabulate max_cards (λ k. writes k s.card (numbers s.position) i))
 
-pub card-below : {s : Saver} → Formed s → (i : ℕ) → i < s.waiting → get_or s.card i 0 < maxCards
-card-below f i l = omega (arith, f.each-card i l, f.few-cards)
+pub card_below : {s : Saver} → Formed s → (i : ℕ) → i < s.waiting → get_or s.card i 0 < max_cards
+card_below f i l = omega (arith, f.each_card i l, f.few_cards)
 
-pub sort-first : {s : Saver} → Sorting s (replicate maxCards (position none)) (replicate maxPool 0) (replicate maxPool (position 0)) 0 0
-sort-first = record { inside = omega arith; count = refl; cards-left = refl; positions-left = refl; entries-so-far = refl }
+pub sort_first : {s : Saver} → Sorting s (replicate max_cards (position none)) (replicate max_pool 0) (replicate max_pool (position 0)) 0 0
+sort_first = record { inside = omega arith; count = refl; cards_left = refl; positions_left = refl; entries_so_far = refl }
 
 -- what a frame more leaves of a table's values
-left-keeps : (c v : List ℕ) (i : ℕ) → isOldest c i ≡ false → left c v (i + 1) ≡ left c v i ++ (get_or v i 0 ∷ [])
-left-keeps c v i e = rw (add-one, e)
+left_keeps : (c v : List ℕ) (i : ℕ) → is_oldest c i ≡ false → left c v (i + 1) ≡ left c v i ++ (get_or v i 0 ∷ [])
+left_keeps c v i e = rw (add-one, e)
 
-left-drops : (c v : List ℕ) (i : ℕ) → isOldest c i ≡ true → left c v (i + 1) ≡ left c v i
-left-drops c v i e = rw (add-one, e) (append-nil (left c v i))
+left_drops : (c v : List ℕ) (i : ℕ) → is_oldest c i ≡ true → left c v (i + 1) ≡ left c v i
+left_drops c v i e = rw (add-one, e) (append-nil (left c v i))
 
 -- what a frame more lets the cards write
-writes-new : (c v : List ℕ) (i : ℕ) → isOldest c i ≡ true → writes (cardOf c i) c v (i + 1) ≡ get_or v i 0
-writes-new c v i e = rw (add-one, e, eq-eqb (cardOf c i) (cardOf c i) refl)
+writes_new : (c v : List ℕ) (i : ℕ) → is_oldest c i ≡ true → writes (card_of c i) c v (i + 1) ≡ get_or v i 0
+writes_new c v i e = rw (add-one, e, eq-eqb (card_of c i) (card_of c i) refl)
 
-writes-other : (k : ℕ) (c v : List ℕ) (i : ℕ) → (k ≡ cardOf c i → ⊥) → writes k c v i ≡ writes k c v (i + 1)
-writes-other k c v i d = rw (add-one, ne_eqb (cardOf c i) k (λ e. d (sym e)))
+writes_other : (k : ℕ) (c v : List ℕ) (i : ℕ) → (k ≡ card_of c i → ⊥) → writes k c v i ≡ writes k c v (i + 1)
+writes_other k c v i d = rw (add-one, ne_eqb (card_of c i) k (λ e. d (sym e)))
 
-writes-same : (k : ℕ) (c v : List ℕ) (i : ℕ) → isOldest c i ≡ false → writes k c v i ≡ writes k c v (i + 1)
-writes-same k c v i e = rw (add-one, e, and-false (eqb (cardOf c i) k))
+writes_same : (k : ℕ) (c v : List ℕ) (i : ℕ) → is_oldest c i ≡ false → writes k c v i ≡ writes k c v (i + 1)
+writes_same k c v i e = rw (add-one, e, and-false (eqb (card_of c i) k))
 
 module _ {s : Saver} {entries positions : List Position} {cards : List ℕ} {n i : ℕ} (f : Formed s) (v : Sorting s entries cards positions n i) where
   abbrev card : ℕ
@@ -68,67 +68,67 @@ module _ {s : Saver} {entries positions : List Position} {cards : List ℕ} {n i
   abbrev place : ℕ
   place = get_or numbered i 0
 
-  frame-place : frame ≡ position place
-  frame-place = ap position (sym (get_or-map (λ p. p.0) s.position i (position 0)))
+  frame_place : frame ≡ position place
+  frame_place = ap position (sym (get_or-map (λ p. p.0) s.position i (position 0)))
 
   abbrev writing : ℕ → ℕ → ℕ
   writing j k = writes k s.card numbered j
 
   module _ (l : i < s.waiting) where
     -- the next place of the new tables
-    pub place-below : n < maxPool
-    place-below = omega (arith, v.count, left-no-longer s.card s.card i, f.in-pool, f.small-pool)
+    pub place_below : n < max_pool
+    place_below = omega (arith, v.count, left_no_longer s.card s.card i, f.fits_pool, f.small_pool)
 
     -- the entry of the frame's card is still free exactly when the frame is the first of its card
-    entry-oldest : eqb (get_or entries card (position 0)).0 none ≡ isOldest s.card i
-    entry-oldest =
+    entry_oldest : eqb (get_or entries card (position 0)).0 none ≡ is_oldest s.card i
+    entry_oldest =
         rw (
-          v.entries-so-far,
-          get_or-map position (tabulate maxCards (writing i)) card 0,
-          get_d_tabulate maxCards (writing i) card 0 (card-below f i l),
+          v.entries_so_far,
+          get_or-map position (tabulate max_cards (writing i)) card 0,
+          get_or_tabulate max_cards (writing i) card 0 (card_below f i l),
         )
-        (writes-none card s.card numbered i (λ j g. omega (arith, f.each-position j (omega (arith, v.inside)), f.few-taken)))
+        (writes_none card s.card numbered i (λ j g. omega (arith, f.each_position j (omega (arith, v.inside)), f.few_taken)))
 
     kept :
-        (values table : List ℕ) → isOldest s.card i ≡ false → table ≡ written (left s.card values i) (replicate maxPool 0)
-        → set table n (get_or values i 0) ≡ written (left s.card values (i + 1)) (replicate maxPool 0)
+        (values table : List ℕ) → is_oldest s.card i ≡ false → table ≡ written (left s.card values i) (replicate max_pool 0)
+        → set table n (get_or values i 0) ≡ written (left s.card values (i + 1)) (replicate max_pool 0)
     kept values table o e =
-        let same : n ≡ length (left s.card values i) = v.count ∙ left-same-length s.card s.card values i in
-        rw (e, same, left-keeps s.card values i o)
-        (written-set (left s.card values i) (replicate maxPool 0) (get_or values i 0)
-        (omega (arith, length-replicate {A = ℕ} maxPool 0, left-no-longer s.card values i, f.in-pool, f.small-pool)))
+        let same : n ≡ length (left s.card values i) = v.count ∙ left_same_length s.card s.card values i in
+        rw (e, same, left_keeps s.card values i o)
+        (written_set (left s.card values i) (replicate max_pool 0) (get_or values i 0)
+        (omega (arith, length-replicate {A = ℕ} max_pool 0, left_no_longer s.card values i, f.fits_pool, f.small_pool)))
 
-    entry_set : isOldest s.card i ≡ true → set (tabulate maxCards (writing i)) card place ≡ tabulate maxCards (writing (i + 1))
+    entry_set : is_oldest s.card i ≡ true → set (tabulate max_cards (writing i)) card place ≡ tabulate max_cards (writing (i + 1))
     entry_set o =
-        rw (writes-new s.card numbered i o)
-        at (set-tabulate maxCards (writing i) (writing (i + 1)) card (card-below f i l) (λ k h d. writes-other k s.card numbered i d))
+        rw (writes_new s.card numbered i o)
+        at (set_tabulate max_cards (writing i) (writing (i + 1)) card (card_below f i l) (λ k h d. writes_other k s.card numbered i d))
 
-    pub sort-writes : (get_or entries card (position 0)).0 ≡ none → Sorting s (set entries card frame) cards positions n (i + 1)
-    sort-writes e =
-        let o : isOldest s.card i ≡ true = sym entry-oldest ∙ eq-eqb (get_or entries card (position 0)).0 none e in
+    pub sort_writes : (get_or entries card (position 0)).0 ≡ none → Sorting s (set entries card frame) cards positions n (i + 1)
+    sort_writes e =
+        let o : is_oldest s.card i ≡ true = sym entry_oldest ∙ eq-eqb (get_or entries card (position 0)).0 none e in
         record {
           inside = omega arith;
-          count = rw (left-drops s.card s.card i o) v.count;
-          cards-left = rw (left-drops s.card s.card i o) v.cards-left;
-          positions-left = rw (left-drops s.card numbered i o) v.positions-left;
-          entries-so-far =
-              rw (v.entries-so-far, frame-place) (map-set position (tabulate maxCards (writing i)) card place ∙ ap (map position) (entry_set o));
+          count = rw (left_drops s.card s.card i o) v.count;
+          cards_left = rw (left_drops s.card s.card i o) v.cards_left;
+          positions_left = rw (left_drops s.card numbered i o) v.positions_left;
+          entries_so_far =
+              rw (v.entries_so_far, frame_place) (map_set position (tabulate max_cards (writing i)) card place ∙ ap (map position) (entry_set o));
         }
 
-    pub sort-keeps : ((get_or entries card (position 0)).0 ≡ none → ⊥) → Sorting s entries (set cards n card) (set positions n frame) (n + 1) (i + 1)
-    sort-keeps e =
-        let o : isOldest s.card i ≡ false = sym entry-oldest ∙ ne_eqb (get_or entries card (position 0)).0 none e in
+    pub sort_keeps : ((get_or entries card (position 0)).0 ≡ none → ⊥) → Sorting s entries (set cards n card) (set positions n frame) (n + 1) (i + 1)
+    sort_keeps e =
+        let o : is_oldest s.card i ≡ false = sym entry_oldest ∙ ne_eqb (get_or entries card (position 0)).0 none e in
         record {
           inside = omega arith;
-          count = rw (left-keeps s.card s.card i o) (omega (arith, v.count, length-append (left s.card s.card i) (card ∷ [])));
-          cards-left = kept s.card cards o v.cards-left;
-          positions-left =
-              rw (v.positions-left, frame-place)
-              (map-set position (written (left s.card numbered i) (replicate maxPool 0)) n place ∙ ap (map position) (kept numbered _ o refl));
-          entries-so-far =
-              v.entries-so-far
+          count = rw (left_keeps s.card s.card i o) (omega (arith, v.count, length-append (left s.card s.card i) (card ∷ [])));
+          cards_left = kept s.card cards o v.cards_left;
+          positions_left =
+              rw (v.positions_left, frame_place)
+              (map_set position (written (left s.card numbered i) (replicate max_pool 0)) n place ∙ ap (map position) (kept numbered _ o refl));
+          entries_so_far =
+              v.entries_so_far
               ∙ ap (map position)
-              (tabulate-cong maxCards (writing i) (writing (i + 1)) (λ k h. writes-same k s.card numbered i o));
+              (tabulate_cong max_cards (writing i) (writing (i + 1)) (λ k h. writes_same k s.card numbered i o));
         }
 
 -- All frames looked at: the new record is the record after the cycle.
@@ -149,7 +149,7 @@ pub sorted : {s : Saver} {entries positions : List Position} {cards : List ℕ} 
             position = positions;
           };
     }
-    ≡ cycleOn s
+    ≡ cycle_on s
 sorted {s} v h =
     let e : _ ≡ s.waiting = le_antisymm v.inside h in
-    rw (v.count, v.cards-left, v.positions-left, v.entries-so-far, e)
+    rw (v.count, v.cards_left, v.positions_left, v.entries_so_far, e)

@@ -3,7 +3,7 @@
 use Rattle.std.specs.Prelude.{ℕ, cond, List, [], ◌∷◌, ◌++◌, map, eqb, replicate}
 use Rattle.saver.specs.declared.Saver.{Saver}
 use Rattle.saver.specs.declared.Answer.{Answer}
-use Rattle.saver.specs.Calls.{numbers, saveOf, closeOf}
+use Rattle.saver.specs.Calls.{numbers, save_of, close_of}
 
 -- a save of a frame on a card, or a closing cycle
 pub data Call : Type 0 where
@@ -11,8 +11,8 @@ pub data Call : Type 0 where
   close : Call
 
 abbrev pub call_of : Saver → Call → Answer
-call_of s (save card) = saveOf s card
-call_of s close = closeOf s
+call_of s (save card) = save_of s card
+call_of s close = close_of s
 
 -- the record after the calls
 abbrev pub after : Saver → List Call → Saver
@@ -31,9 +31,9 @@ log s (a ∷ calls) = logged (call_of s a) ++ log (call_of s a).saver calls
 -- the cards of the frames that were saved: a refused save saves none
 abbrev pub accepted : Saver → List Call → List ℕ
 accepted s [] = []
-accepted s (save card ∷ calls) = cond (eqb (saveOf s card).refusal 0) (card ∷ []) [] ++ accepted (saveOf s card).saver calls
-accepted s (close ∷ calls) = accepted (closeOf s).saver calls
+accepted s (save card ∷ calls) = cond (eqb (save_of s card).refusal 0) (card ∷ []) [] ++ accepted (save_of s card).saver calls
+accepted s (close ∷ calls) = accepted (close_of s).saver calls
 
 -- a list saved, and then k closing cycles
-abbrev pub savedAndClosed : List ℕ → ℕ → List Call
-savedAndClosed list k = map save list ++ replicate k close
+abbrev pub saved_and_closed : List ℕ → ℕ → List Call
+saved_and_closed list k = map save list ++ replicate k close

@@ -1,7 +1,7 @@
-// The saver: frames are saved one by one, as they come, and written as greedyWriting writes them. The record goes into each call by value
+// The saver: frames are saved one by one, as they come, and written as greedy_writing writes them. The record goes into each call by value
 // and the new one comes back.
 ghost use Rattle.std.specs.Prelude.{◌≡◌};
-ghost use Rattle.saver.specs.Calls.{newOf, saveOf, closeOf, Given};
+ghost use Rattle.saver.specs.Calls.{new_of, save_of, close_of, Given};
 ghost use Rattle.saver.specs.Follows.{SaveFollows, CloseFollows};
 
 mod steps;
@@ -40,7 +40,7 @@ pub struct Answer {
 impl Saver {
     // A new saver, or refusal 4 or 5 with a record that takes no frame.
     pub fn new(cards: u8, pool: u16) -> Answer
-        ensures answer { result ≡ newOf cards pool }
+        ensures answer { result ≡ new_of cards pool }
         ensures given { Given result.saver }
     {
         if cards < 1 {
@@ -61,7 +61,7 @@ impl Saver {
     // The next frame, on this card. A cycle is made first if the pool is full.
     pub fn save(self, card: u8) -> Answer
         requires { Given self }
-        ensures answer { result ≡ saveOf self card }
+        ensures answer { result ≡ save_of self card }
         ensures given { Given result.saver }
         ensures greedy { SaveFollows self card result }
     {
@@ -83,7 +83,7 @@ impl Saver {
     // One closing cycle. The first one begins closing: no frame is taken from then on.
     pub fn close(mut self) -> Answer
         requires { Given self }
-        ensures answer { result ≡ closeOf self }
+        ensures answer { result ≡ close_of self }
         ensures given { Given result.saver }
         ensures greedy { CloseFollows self result }
     {

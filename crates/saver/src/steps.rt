@@ -1,6 +1,6 @@
 // The steps of a saver: an empty record, a frame that enters the pool, and one cycle.
 ghost use Rattle.std.specs.Prelude.{◌≡◌};
-ghost use Rattle.saver.specs.Calls.{newSaver, noSaver, refusal, quiet, entered, thenEnters, cycleOn};
+ghost use Rattle.saver.specs.Calls.{new_saver, no_saver, refusal, quiet, entered, then_enters, cycle_on};
 ghost use Rattle.saver.specs.Formed.{Formed, Room};
 
 use crate::{Answer, Saver};
@@ -11,7 +11,7 @@ use header::limits;
 const NONE: u16 = 65535;
 
 pub(crate) fn empty(cards: u8, pool: u16, closing: bool) -> Saver
-    ensures { result ≡ newSaver cards pool closing }
+    ensures { result ≡ new_saver cards pool closing }
 {
     Saver {
         cards: cards,
@@ -38,7 +38,7 @@ pub(crate) fn refused(number: u8, saver: Saver) -> Answer
 
 // A new saver that is refused: a record that takes no frame.
 pub(crate) fn no_saver(number: u8) -> Answer
-    ensures { result ≡ refusal number noSaver }
+    ensures { result ≡ refusal number no_saver }
 {
     refused(number, empty(1, 1, true))
 }
@@ -68,7 +68,7 @@ pub(crate) fn enter(mut saver: Saver, card: u8) -> Saver
 //   left        how many of them are left
 pub(crate) fn one_cycle(saver: Saver) -> Answer
     requires { Formed saver }
-    ensures { result ≡ cycleOn saver }
+    ensures { result ≡ cycle_on saver }
 {
     let mut written = [Position(NONE); limits::CARDS];
     let mut card = [0u8; limits::POOL];
@@ -112,7 +112,7 @@ pub(crate) fn one_cycle(saver: Saver) -> Answer
 // After a cycle, the next frame enters.
 pub(crate) fn then_enter(mut made: Answer, card: u8) -> Answer
     requires { Room made.saver }
-    ensures { result ≡ thenEnters made card }
+    ensures { result ≡ then_enters made card }
 {
     let left = made.saver;
     made.saver = enter(left, card);

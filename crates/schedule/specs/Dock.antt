@@ -4,13 +4,13 @@
 -- Every list of steps is taken, also one that goes on after a step against the rules; positions not below L are against the rules.
 -- Assumes nothing.
 use Rattle.std.specs.Prelude.{ℕ, zero, suc, ◌-◌, Bool, true, false, not, ◌&&◌, ◌||◌, cond, List, [], ◌∷◌, eqb, leb, ltb, length}
-use Rattle.counting.specs.Count.{howMany}
-use Rattle.counting.specs.Frames.{cardOf}
+use Rattle.counting.specs.Count.{how_many}
+use Rattle.counting.specs.Frames.{card_of}
 
 pub data Step : Type 0 where
-  readFrame : ℕ → Step
-  dropFrame : ℕ → Step
-  endCycle : Step
+  read_frame : ℕ → Step
+  drop_frame : ℕ → Step
+  end_cycle : Step
 
 -- "It keeps how many frames are handed over (always the first ones of the list), which frames are held, which cards have read in this
 -- cycle, how many cycles have ended, and whether the list of steps is broken off."
@@ -22,17 +22,17 @@ pub record Dock : Type 0 where
   pub broken : Bool
 
 -- "At the start it is empty"
-abbrev pub emptyDock : Dock
-emptyDock = record { delivered = 0; held = λ i. false; busy = []; ended = 0; broken = false }
+abbrev pub empty_dock : Dock
+empty_dock = record { delivered = 0; held = λ i. false; busy = []; ended = 0; broken = false }
 
 -- a set of numbers, with i put in (b is true) or taken out
 abbrev pub put : (ℕ → Bool) → ℕ → Bool → ℕ → Bool
 put set i b j = cond (eqb j i) b (set j)
 
 -- whether a number is in a list
-abbrev pub isIn : ℕ → List ℕ → Bool
-isIn c [] = false
-isIn c (d ∷ l) = eqb c d || isIn c l
+abbrev pub is_in : ℕ → List ℕ → Bool
+is_in c [] = false
+is_in c (d ∷ l) = eqb c d || is_in c l
 
 abbrev pub is_empty : List ℕ → Bool
 is_empty [] = true
@@ -43,46 +43,46 @@ abbrev pub deliver : (ℕ → Bool) → ℕ → ℕ → ℕ
 deliver held zero n = n
 deliver held (suc k) n = cond (held n) (deliver held k (suc n)) n
 
-abbrev pub breakOff : Dock → Dock
-breakOff d = record { delivered = d.delivered; held = d.held; busy = d.busy; ended = d.ended; broken = true }
+abbrev pub break_off : Dock → Dock
+break_off d = record { delivered = d.delivered; held = d.held; busy = d.busy; ended = d.ended; broken = true }
 
 module _ (cards : List ℕ) where
   -- how many frames are held
   abbrev pub holding : Dock → ℕ
-  holding d = howMany (length cards) d.held
+  holding d = how_many (length cards) d.held
 
   -- what a step within the rules does
   abbrev pub perform : Step → Dock → Dock
   -- "it uses the card's turn. A frame neither held nor handed over takes a buffer and is held"
-  perform (readFrame i) d =
+  perform (read_frame i) d =
       record {
         delivered = d.delivered;
         held = put d.held i (d.held i || leb d.delivered i);
-        busy = cardOf cards i ∷ d.busy;
+        busy = card_of cards i ∷ d.busy;
         ended = d.ended;
         broken = false;
       }
   -- "a held frame is no longer held; for any other frame nothing changes"
-  perform (dropFrame i) d =
+  perform (drop_frame i) d =
       record { delivered = d.delivered; held = put d.held i false; busy = d.busy; ended = d.ended; broken = false }
   -- "while the next frame of the list is held, it is handed over and its buffer is free; one more cycle has ended, and every card may
   -- read again"
-  perform endCycle d =
+  perform end_cycle d =
       let n : ℕ = deliver d.held (length cards - d.delivered) d.delivered in
       record { delivered = n; held = λ i. d.held i && leb n i; busy = []; ended = suc d.ended; broken = false }
 
 module _ (m : ℕ) (cards : List ℕ) where
   abbrev pub against : Step → Dock → Bool
   -- "against the rules if its card has read in this cycle"
-  against (readFrame i) d = leb (length cards) i || isIn (cardOf cards i) d.busy
+  against (read_frame i) d = leb (length cards) i || is_in (card_of cards i) d.busy
   -- "against the rules after any read in this cycle"
-  against (dropFrame i) d = leb (length cards) i || not (is_empty d.busy)
+  against (drop_frame i) d = leb (length cards) i || not (is_empty d.busy)
   -- "against the rules if more than m frames are held"
-  against endCycle d = ltb m (holding cards d)
+  against end_cycle d = ltb m (holding cards d)
 
   -- "A step against the rules breaks the list of steps off: beyond that, neither it nor any later step changes anything."
   abbrev pub step : Step → Dock → Dock
-  step a d = cond d.broken d (cond (against a d) (breakOff d) (perform cards a d))
+  step a d = cond d.broken d (cond (against a d) (break_off d) (perform cards a d))
 
   -- "Each step finds the dock as the last one left it, and nothing else changes it."
   unfoldable pub run : List Step → Dock → Dock

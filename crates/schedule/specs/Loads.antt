@@ -4,7 +4,7 @@
 -- Assumes nothing.
 use Rattle.std.specs.Prelude.{ℕ, suc, ◌+◌, ◌≤◌, ◌<◌, List, length}
 use Rattle.counting.specs.Count.{tabulate, largest}
-use Rattle.counting.specs.Frames.{cardOf, load}
+use Rattle.counting.specs.Frames.{card_of, load}
 
 -- the load of the fullest card: of the D cards, the most frames that are on one of them
 abbrev pub fullest : ℕ → List ℕ → ℕ
@@ -16,7 +16,7 @@ Even D S cards = (n c d : ℕ) → n ≤ length cards → c < D → d < D → lo
 
 -- The schedule by rank: the first frame of each card in cycle 1, its second in cycle 2, and so on. Frame i has the cycle
 abbrev pub rank : List ℕ → ℕ → ℕ
-rank cards i = load cards (suc i) (cardOf cards i)
+rank cards i = load cards (suc i) (card_of cards i)
 
-abbrev pub byRank : List ℕ → List ℕ
-byRank cards = tabulate (length cards) (rank cards)
+abbrev pub by_rank : List ℕ → List ℕ
+by_rank cards = tabulate (length cards) (rank cards)

@@ -4,20 +4,20 @@
 -- T = 0 and peak 0. Cycles have no upper limit.
 -- Assumes nothing.
 use Rattle.std.specs.Prelude.{ℕ, zero, suc, ◌≤◌, ◌<◌, ◌≡◌, Bool, ◌&&◌, cond, List, eqb, leb, ltb, length}
-use Rattle.counting.specs.Count.{howMany}
-use Rattle.counting.specs.Frames.{cardOf}
-use Rattle.schedule.specs.Schedule.{cycleOf, cyclesIn, oBacklog, iBacklog}
-use Rattle.schedule.specs.Drive.{buffersNeeded}
+use Rattle.counting.specs.Count.{how_many}
+use Rattle.counting.specs.Frames.{card_of}
+use Rattle.schedule.specs.Schedule.{cycle_of, cycles_in, o_backlog, i_backlog}
+use Rattle.schedule.specs.Drive.{buffers_needed}
 
 -- "cycle 0; an earlier frame of the same card in the same cycle; too many frames in the pool"
 pub data Fault : Type 0 where
-  noCycle : Fault
-  sharedCard : Fault
+  no_cycle : Fault
+  shared_card : Fault
   overfull : Fault
 
 abbrev pub order : Fault → ℕ
-order noCycle = 0
-order sharedCard = 1
+order no_cycle = 0
+order shared_card = 1
 order overfull = 2
 
 pub data Verdict : Type 0 where
@@ -28,36 +28,36 @@ pub data Verdict : Type 0 where
 
 -- whether an earlier frame of the same card has the same cycle
 abbrev pub shares : List ℕ → List ℕ → ℕ → Bool
-shares cards cycles i = ltb 0 (howMany i (λ j. eqb (cardOf cards j) (cardOf cards i) && eqb (cycleOf cycles j) (cycleOf cycles i)))
+shares cards cycles i = ltb 0 (how_many i (λ j. eqb (card_of cards j) (card_of cards i) && eqb (cycle_of cycles j) (cycle_of cycles i)))
 
 -- `backlog` says which frames share the pool with frame i until its cycle.
 module _ (backlog : List ℕ → ℕ → ℕ) (m : ℕ) (cards cycles : List ℕ) where
   -- frame i: the first of its faults, or what is said where it has none
   abbrev pub judge : ℕ → Verdict → Verdict
   judge i otherwise =
-      cond (eqb (cycleOf cycles i) 0) (faulty i noCycle)
-      (cond (shares cards cycles i) (faulty i sharedCard)
+      cond (eqb (cycle_of cycles i) 0) (faulty i no_cycle)
+      (cond (shares cards cycles i) (faulty i shared_card)
       (cond (leb m (backlog cycles i)) (faulty i overfull) otherwise))
 
   -- frames i, i + 1, .., k of them: the first that is at fault decides
-  abbrev pub judgeFrom : ℕ → ℕ → Verdict → Verdict
-  judgeFrom zero i otherwise = otherwise
-  judgeFrom (suc k) i otherwise = judge i (judgeFrom k (suc i) otherwise)
+  abbrev pub judge_from : ℕ → ℕ → Verdict → Verdict
+  judge_from zero i otherwise = otherwise
+  judge_from (suc k) i otherwise = judge i (judge_from k (suc i) otherwise)
 
 -- A read plan: "valid with T and, for a read, the peak of the plan's run on a dock with a buffer for every frame".
-unfoldable pub verdictOnRead : ℕ → List ℕ → List ℕ → Verdict
-verdictOnRead m cards cycles =
-    judgeFrom iBacklog m cards cycles (length cards) 0 (valid (cyclesIn cycles) (buffersNeeded cards cycles))
+unfoldable pub verdict_on_read : ℕ → List ℕ → List ℕ → Verdict
+verdict_on_read m cards cycles =
+    judge_from i_backlog m cards cycles (length cards) 0 (valid (cycles_in cycles) (buffers_needed cards cycles))
 
 -- A save plan: "for a save the peak is 0".
-unfoldable pub verdictOnSave : ℕ → List ℕ → List ℕ → Verdict
-verdictOnSave m cards cycles = judgeFrom oBacklog m cards cycles (length cards) 0 (valid (cyclesIn cycles) 0)
+unfoldable pub verdict_on_save : ℕ → List ℕ → List ℕ → Verdict
+verdict_on_save m cards cycles = judge_from o_backlog m cards cycles (length cards) 0 (valid (cycles_in cycles) 0)
 
 -- The faults in plain conditions. It is proved that a verdict names a position just as `Named` says.
 module _ (backlog : List ℕ → ℕ → ℕ) (m : ℕ) (cards cycles : List ℕ) where
   abbrev pub Has : ℕ → Fault → Type 0
-  Has i noCycle = cycleOf cycles i ≡ 0
-  Has i sharedCard = (j : ℕ) × (j < i) × (cardOf cards j ≡ cardOf cards i) × (cycleOf cycles j ≡ cycleOf cycles i)
+  Has i no_cycle = cycle_of cycles i ≡ 0
+  Has i shared_card = (j : ℕ) × (j < i) × (card_of cards j ≡ card_of cards i) × (cycle_of cycles j ≡ cycle_of cycles i)
   Has i overfull = m ≤ backlog cycles i
 
   -- position i is the lowest at fault, and f is the first of its faults

@@ -1,4 +1,4 @@
-// greedyWriting, lazy prefetching and save and keep, as document 01 tells them: a pool, and cycles that are made one by one. A schedule is
+// greedy_writing, lazy prefetching and save and keep, as document 01 tells them: a pool, and cycles that are made one by one. A schedule is
 // the list of the frames' cycles, with the number of cycles made, which is T in the end, behind 8 of them.
 // Of the first `entered` frames of the list, those whose cycle is 0 wait in the pool.
 use crate::lists::{at, with};
@@ -28,7 +28,7 @@ fn cycle_if(c: Case, schedule: u64, entered: u64, least: u64) -> u64 {
     if waiting < least { schedule } else { after }
 }
 
-// greedyWriting takes the frames in order, with one cycle before each that finds m in the pool. Then, but not in save and keep, closing
+// greedy_writing takes the frames in order, with one cycle before each that finds m in the pool. Then, but not in save and keep, closing
 // cycles follow until the pool is empty, and each writes a frame.
 pub(crate) fn greedy_writing(c: Case) -> u64 {
     let mut schedule: u64 = 0;
@@ -57,7 +57,7 @@ fn reversed(list: u64, n: u64, from: u64) -> u64 {
     back
 }
 
-// The schedule that document 01 gives for a ticket. That of a read is lazy prefetching: greedyWriting on the reversed list, and then T - c + 1
+// The schedule that document 01 gives for a ticket. That of a read is lazy prefetching: greedy_writing on the reversed list, and then T - c + 1
 // for each cycle c, reversed back. The cards of the reversed list are renamed, c as 2 - c, which changes no schedule.
 pub(crate) fn schedule(c: Case) -> u64 {
     if c.mode != tickets::READ {

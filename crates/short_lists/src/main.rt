@@ -36,7 +36,7 @@ fn cycles(ticket: &[u8]) -> u64 {
     lists::at(planned(ticket), greedy::MADE)
 }
 
-// One ticket: its plan against greedyWriting; then what else is compared of it. After differences that were written out comes their ticket.
+// One ticket: its plan against greedy_writing; then what else is compared of it. After differences that were written out comes their ticket.
 fn one_ticket(counts: &mut report::Counts, c: Case) {
     let before = report::add(counts, report::WRITTEN, 0);
     let text = tickets::text_of(c);

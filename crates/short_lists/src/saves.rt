@@ -1,4 +1,4 @@
-// The saver: each list saved frame by frame and closed until the pool is empty, against greedyWriting, as the save plan is in main.rt.
+// The saver: each list saved frame by frame and closed until the pool is empty, against greedy_writing, as the save plan is in main.rt.
 ghost use Rattle.saver.specs.Calls.{Given};
 
 use crate::lists::{at, with};
@@ -114,7 +114,7 @@ fn save_list(c: Case) -> Saved
     }
 }
 
-// The cycles made and noted against greedyWriting.
+// The cycles made and noted against greedy_writing.
 pub(crate) fn compare_saver(counts: &mut report::Counts, c: Case) {
     let s = save_list(c);
     let saver = s.saver;

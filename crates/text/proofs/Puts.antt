@@ -9,18 +9,18 @@ use native.Mathlib.Nat.{add-zero, add-suc, div-one, div-div-eq-div-mul, mod-lt, 
 use lib.Arith.{digits_div, digits_mod, mod-mul}
 use lib.ListN.{length, get_or, set, length-append}
 use lib.Seq.{sets}
-use Rattle.counting.proofs.Lists.{get_d_tabulate}
-use Rattle.counting.proofs.Parts.{sets-append}
-use Rattle.text.specs.Hex.{digitOf, digitTexts, hex}
+use Rattle.counting.proofs.Lists.{get_or_tabulate}
+use Rattle.counting.proofs.Parts.{sets_append}
+use Rattle.text.specs.Hex.{digit_of, digit_texts, hex}
 
 -- the table of digits, read at a value
-pub text_of : (l : List ℕ) → l ≡ digitTexts → (v : ℕ) → v < 16 → get_or l v 0 ≡ digitOf v
-unfolding digitTexts
-text_of l e v h = rw e (get_d_tabulate 16 digitOf v 0 h)
+pub text_of : (l : List ℕ) → l ≡ digit_texts → (v : ℕ) → v < 16 → get_or l v 0 ≡ digit_of v
+unfolding digit_texts
+text_of l e v h = rw e (get_or_tabulate 16 digit_of v 0 h)
 
 -- two digits
 pub put_2 :
-    (l : List ℕ) (at v high low : ℕ) → v < 256 → high ≡ digitOf (v / 16) → low ≡ digitOf (v % 16)
+    (l : List ℕ) (at v high low : ℕ) → v < 256 → high ≡ digit_of (v / 16) → low ≡ digit_of (v % 16)
     → set (set l at high) (at + 1) low ≡ sets l at (hex 2 v)
 unfolding hex
 put_2 l at v high low h e f =
@@ -31,31 +31,31 @@ put_2 l at v high low h e f =
 module _
     (base : ℕ) (pos : 0 < base) (digit : ℕ → ℕ) (write : ℕ → ℕ → List ℕ) (none : (v : ℕ) → write 0 v ≡ [])
     (next : (n v : ℕ) → write (suc n) v ≡ write n (v / base) ++ (digit (v % base) ∷ [])) where
-  pub write-long : (n v : ℕ) → length (write n v) ≡ n
-  write-long zero v = ap length (none v)
-  write-long (suc n) v =
-      omega (arith, ap length (next n v), length-append (write n (v / base)) (digit (v % base) ∷ []), write-long n (v / base))
+  pub write_long : (n v : ℕ) → length (write n v) ≡ n
+  write_long zero v = ap length (none v)
+  write_long (suc n) v =
+      omega (arith, ap length (next n v), length-append (write n (v / base)) (digit (v % base) ∷ []), write_long n (v / base))
 
   pub write_step : (n a d : ℕ) → d < base → write (suc n) (a * base + d) ≡ write n a ++ (digit d ∷ [])
   write_step n a d h = next n (a * base + d) ∙ rw (digits_div a h, digits_mod a h)
 
-  pub write-split : (a b v : ℕ) → write (a + b) v ≡ write a (v / base ^ b) ++ write b (v % base ^ b)
-  write-split a zero v = rw (add-zero, pow-zero, div-one, none (v % 1)) (sym (append-nil (write a v)))
-  write-split a (suc b) v =
+  pub write_split : (a b v : ℕ) → write (a + b) v ≡ write a (v / base ^ b) ++ write b (v % base ^ b)
+  write_split a zero v = rw (add-zero, pow-zero, div-one, none (v % 1)) (sym (append-nil (write a v)))
+  write_split a (suc b) v =
       let high : v / base / base ^ b ≡ v / base ^ suc b = rw pow-succ' (div-div-eq-div-mul v base (base ^ b)) in
       let low : v % base ^ suc b ≡ v / base % base ^ b * base + v % base = rw pow-suc (mod-mul v (one-le-pow b base pos) pos) in
-      rw (add-suc, next (a + b) v, write-split a b (v / base), high, low, write_step b (v / base % base ^ b) (v % base) (mod-lt v pos))
+      rw (add-suc, next (a + b) v, write_split a b (v / base), high, low, write_step b (v / base % base ^ b) (v % base) (mod-lt v pos))
       (append_assoc (write a (v / base ^ suc b)) (write b (v / base % base ^ b)) (digit (v % base) ∷ []))
 
-  pub put-runs :
+  pub put_runs :
       (a b : ℕ) (l x y : List ℕ) (at v : ℕ) → x ≡ sets l at (write a (v / base ^ b)) → y ≡ sets x (at + a) (write b (v % base ^ b))
       → y ≡ sets l at (write (a + b) v)
-  put-runs a b l x y at v e f =
-      rw (f, e, write-split a b v)
-      (sets-append l at (write a (v / base ^ b)) (write b (v % base ^ b)) (at + a) (rw (write-long a (v / base ^ b))))
+  put_runs a b l x y at v e f =
+      rw (f, e, write_split a b v)
+      (sets_append l at (write a (v / base ^ b)) (write b (v % base ^ b)) (at + a) (rw (write_long a (v / base ^ b))))
 
 pub put_both :
     (a b : ℕ) (l x y : List ℕ) (at v : ℕ) → x ≡ sets l at (hex a (v / 16 ^ b)) → y ≡ sets x (at + a) (hex b (v % 16 ^ b))
     → y ≡ sets l at (hex (a + b) v)
 unfolding hex
-put_both = put-runs 16 (omega arith) digitOf hex (λ v. refl) (λ n v. refl)
+put_both = put_runs 16 (omega arith) digit_of hex (λ v. refl) (λ n v. refl)

@@ -5,8 +5,8 @@ use Rattle.std.specs.Prelude.{ℕ, zero, suc, ◌+◌, ◌-◌, ◌*◌, ◌<◌
 use Rattle.counting.specs.Count.{tabulate}
 
 -- "ends in byte 0A hex"
-abbrev pub endByte : ℕ
-endByte = 10
+abbrev pub end_byte : ℕ
+end_byte = 10
 
 -- "A digit now has its value in either case": that of 0-9, of A-F and of a-f, and 255 for a byte that is no digit. A number of 2 digits is
 -- 255 or more where one of them is none.
@@ -17,18 +17,18 @@ digit b =
     (cond (leb 97 b && leb b 102) (b - 87)
     255))
 
-abbrev pub isDigit : ℕ → Bool
-isDigit b = ltb (digit b) 16
+abbrev pub is_digit : ℕ → Bool
+is_digit b = ltb (digit b) 16
 
 -- the values of all bytes
-unfoldable pub digitValues : List ℕ
-digitValues = tabulate 256 digit
+unfoldable pub digit_values : List ℕ
+digit_values = tabulate 256 digit
 
 module _ (s : List ℕ) (at : ℕ) where
   -- whether the n bytes from place `at` on are digits
   unfoldable pub digits : ℕ → Bool
   digits zero = true
-  digits (suc n) = digits n && isDigit (get_or s (at + n) 0)
+  digits (suc n) = digits n && is_digit (get_or s (at + n) 0)
 
   -- the value of the n digits from place `at` on, the first one the highest
   unfoldable pub number : ℕ → ℕ
@@ -37,10 +37,10 @@ module _ (s : List ℕ) (at : ℕ) where
 
   -- whether a line of n digits stands at place `at`: n digits and an end byte
   unfoldable pub is_line : ℕ → Bool
-  is_line n = ltb (at + n) (length s) && (digits n && eqb (get_or s (at + n) 0) endByte)
+  is_line n = ltb (at + n) (length s) && (digits n && eqb (get_or s (at + n) 0) end_byte)
 
 -- the same in plain words: n digits and an end byte stand at place `at` of s
 pub record Line (s : List ℕ) (at n : ℕ) : Type 0 where
   pub inside : at + n < length s
-  pub each-digit : (i : ℕ) → i < n → digit (get_or s (at + i) 0) < 16
-  pub ends : get_or s (at + n) 0 ≡ endByte
+  pub each_digit : (i : ℕ) → i < n → digit (get_or s (at + i) 0) < 16
+  pub ends : get_or s (at + n) 0 ≡ end_byte

@@ -6,5 +6,5 @@ use Rattle.std.specs.Prelude.{ℕ, ◌-◌, ◌&&◌, cond, List, map, leb}
 unfoldable pub upper : ℕ → ℕ
 upper b = cond (leb 97 b && leb b 102) (b - 32) b
 
-abbrev pub upperCase : List ℕ → List ℕ
-upperCase t = map upper t
+abbrev pub upper_case : List ℕ → List ℕ
+upper_case t = map upper t

@@ -1,6 +1,6 @@
 // Digits: the text that tickets and printed plans are made of, read and written.
 ghost use Rattle.std.specs.Prelude.{◌≡◌, get_or};
-ghost use Rattle.text.specs.Text.{digit, digitValues};
+ghost use Rattle.text.specs.Text.{digit, digit_values};
 
 pub mod read;
 pub mod wide;
@@ -11,7 +11,7 @@ pub const END: u8 = 10;
 
 // For each byte its value as a digit, in either case, and 255 where it is no digit. A caller builds the table once and lends it for each digit.
 pub fn digit_values() -> [u8; 256]
-    ensures { result ≡ digitValues }
+    ensures { result ≡ digit_values }
 {
     let mut value = [255u8; 256];
     value[48] = 0;
@@ -42,7 +42,7 @@ pub fn digit_values() -> [u8; 256]
 // A byte's entry in such a table: with the table above, its value as a digit.
 pub fn digit(value: &[u8; 256], b: u8) -> u8
     ensures entry { result ≡ get_or value.now b 0 }
-    ensures digit { value.now ≡ digitValues → result ≡ digit b }
+    ensures digit { value.now ≡ digit_values → result ≡ digit b }
 {
     value[b as usize]
 }

@@ -1,10 +1,10 @@
 // Lines and numbers, read with the table of digits.
 ghost use Rattle.std.specs.Prelude.{◌≡◌, true, ◌+◌, ◌^◌, ◌≤◌, ◌<◌, length};
-ghost use Rattle.text.specs.Text.{digitValues, digits, number, is_line};
+ghost use Rattle.text.specs.Text.{digit_values, digits, number, is_line};
 
 // Whether a line of n digits stands at a place, whatever the place and n.
 pub fn is_line(value: &[u8; 256], s: &[u8], at: usize, n: usize) -> bool
-    ensures { value.now ≡ digitValues → result ≡ is_line s.now at n }
+    ensures { value.now ≡ digit_values → result ≡ is_line s.now at n }
 {
     let long = s.len();
     if long <= n {
@@ -26,7 +26,7 @@ pub fn is_line(value: &[u8; 256], s: &[u8], at: usize, n: usize) -> bool
 
 // The value of the n digits from a place on, 8 at most.
 pub fn number(value: &[u8; 256], s: &[u8], at: usize, n: usize) -> u32
-    requires { (value.now ≡ digitValues) × (n ≤ 8) × (at + n ≤ length s.now) × (digits s.now at n ≡ true) }
+    requires { (value.now ≡ digit_values) × (n ≤ 8) × (at + n ≤ length s.now) × (digits s.now at n ≡ true) }
     ensures { (result ≡ number s.now at n) × (result < 16 ^ n) }
 {
     let mut sum: u32 = 0;

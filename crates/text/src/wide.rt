@@ -1,7 +1,7 @@
 // Numbers of up to 8 bytes that may be no digits: where one of them is none, the number is NO_NUMBER or more.
 ghost use Rattle.std.specs.Prelude.{◌≡◌, ◌+◌, ◌≤◌, length};
-ghost use Rattle.text.specs.Text.{digit, digitValues};
-ghost use Rattle.text.specs.Wide.{wide, wideValues, wideNumber};
+ghost use Rattle.text.specs.Text.{digit, digit_values};
+ghost use Rattle.text.specs.Wide.{wide, wide_values, wide_number};
 
 // Larger than every number of 8 digits.
 pub const NO_NUMBER: u64 = 4294967296;
@@ -15,8 +15,8 @@ fn wide(v: u8) -> u64
 
 // These values of all bytes, made of the table of digits, which lie from `0` to `f`. A caller builds the table once and lends it for each number.
 pub fn wide_values(value: &[u8; 256]) -> [u64; 256]
-    requires { value.now ≡ digitValues }
-    ensures { result ≡ wideValues }
+    requires { value.now ≡ digit_values }
+    ensures { result ≡ wide_values }
 {
     let mut table = [NO_NUMBER; 256];
     let mut b: usize = 48;
@@ -29,7 +29,7 @@ pub fn wide_values(value: &[u8; 256]) -> [u64; 256]
 
 // A byte's entry in such a table.
 fn entry(table: &[u64; 256], b: u8) -> u64
-    requires { table.now ≡ wideValues }
+    requires { table.now ≡ wide_values }
     ensures { result ≡ wide (digit b) }
 {
     table[b as usize]
@@ -37,8 +37,8 @@ fn entry(table: &[u64; 256], b: u8) -> u64
 
 // The number of the n bytes from a place on.
 pub fn wide_number(table: &[u64; 256], s: &[u8], at: usize, n: usize) -> u64
-    requires { (table.now ≡ wideValues) × (n ≤ 8) × (at + n ≤ length s.now) }
-    ensures { result ≡ wideNumber s.now at n }
+    requires { (table.now ≡ wide_values) × (n ≤ 8) × (at + n ≤ length s.now) }
+    ensures { result ≡ wide_number s.now at n }
 {
     let mut sum: u64 = 0;
     let mut i: usize = 0;

@@ -7,15 +7,15 @@ use native.Mathlib.Omega.{arith}
 use native.Mathlib.Nat.{mul-suc}
 use lib.ListN.{length, length-drop}
 use Rattle.counting.specs.Count.{tabulate}
-use Rattle.counting.specs.Frames.{cardOf}
-use Rattle.counting.proofs.Lists.{length-tabulate, get_d_tabulate}
+use Rattle.counting.specs.Frames.{card_of}
+use Rattle.counting.proofs.Lists.{length_tabulate, get_or_tabulate}
 use Rattle.text.specs.Text.{Line}
-use Rattle.frame_lines.specs.Lines.{cardAt}
-use Rattle.header.specs.Editions.{lineDigits, lineBytes}
-use Rattle.header.specs.Heading.{headerBytes, headerOf, editionOf}
+use Rattle.frame_lines.specs.Lines.{card_at}
+use Rattle.header.specs.Editions.{line_digits, line_bytes}
+use Rattle.header.specs.Heading.{header_bytes, header_of, edition_of}
 use Rattle.ticket.specs.Grounds.{Says, row1, row2, row3, row4, row5, row6, row7, row8, row17, row9, none}
-use Rattle.ticket.specs.Grounds.{HeaderPasses, card, LinesPass, framesOf, part, Fits}
-use Rattle.ticket.specs.Ticket.{Parsed, accepted, refused, parse, longestTicket, lineStart}
+use Rattle.ticket.specs.Grounds.{HeaderPasses, card, LinesPass, frames_of, part, Fits}
+use Rattle.ticket.specs.Ticket.{Parsed, accepted, refused, parse, longest_ticket, line_start}
 use Rattle.frame_lines.proofs.OneLine.{eight, few_bytes}
 use Rattle.ticket.proofs.Reader.{says}
 use Rattle.header.specs.declared.Header.{Header}
@@ -24,10 +24,10 @@ module _ (t : List ℕ) (h : Header) (cards : List ℕ) where
   -- the one row that accepts
   pub record Row : Type 0 where
     pub header : HeaderPasses t
-    pub lines : LinesPass t (framesOf t)
-    pub ends : length (part t) ≤ lineBytes (editionOf t) * framesOf t
-    pub its-header : h ≡ headerOf t
-    pub its-cards : cards ≡ tabulate (framesOf t) (card t)
+    pub lines : LinesPass t (frames_of t)
+    pub ends : length (part t) ≤ line_bytes (edition_of t) * frames_of t
+    pub its_header : h ≡ header_of t
+    pub its_cards : cards ≡ tabulate (frames_of t) (card t)
 
   impossible : (k : ℕ) → refused k ≡ accepted h cards → Row
   impossible k e = let z : ◌≡◌ {A = ℕ} 0 1 = cc in absurd (omega arith)
@@ -43,66 +43,66 @@ module _ (t : List ℕ) (h : Header) (cards : List ℕ) where
   row_of _ (row8 _ _ _ _ _ _) e = impossible 8 e
   row_of _ (row17 _ _ _ _ _ _ _) e = impossible 17 e
   row_of _ (row9 _ _ _) e = impossible 9 e
-  row_of _ (none p q l) e = record { header = p; lines = q; ends = l; its-header = cc; its-cards = cc }
+  row_of _ (none p q l) e = record { header = p; lines = q; ends = l; its_header = cc; its_cards = cc }
 
   module _ (e : parse t ≡ accepted h cards) where
     pub row : Row
     row = row_of (parse t) (says t) e
 
     pub as_many : length cards ≡ h.frames
-    as_many = rw (row.its-cards, row.its-header) (length-tabulate (framesOf t) (card t))
+    as_many = rw (row.its_cards, row.its_header) (length_tabulate (frames_of t) (card t))
 
-    pub its-edition : h.edition ≡ editionOf t
-    its-edition = ap (λ (x : Header). x.edition) row.its-header
+    pub its_edition : h.edition ≡ edition_of t
+    its_edition = ap (λ (x : Header). x.edition) row.its_header
 
-    pub card-at : (i : ℕ) → i < length cards → cardOf cards i ≡ card t i
-    card-at i l =
-        let k : i < framesOf t = rw (as_many, row.its-header) at l in
-        rw row.its-cards (get_d_tabulate (framesOf t) (card t) i 0 k)
+    pub card_at_is : (i : ℕ) → i < length cards → card_of cards i ≡ card t i
+    card_at_is i l =
+        let k : i < frames_of t = rw (as_many, row.its_header) at l in
+        rw row.its_cards (get_or_tabulate (frames_of t) (card t) i 0 k)
 
     pub fits : Fits h cards
     fits =
         let p = row.header in
         record {
-          edition = rw row.its-header p.edition;
-          mode = rw row.its-header p.mode;
-          card-range = rw row.its-header p.cards;
-          pool = rw row.its-header p.pool;
+          edition = rw row.its_header p.edition;
+          mode = rw row.its_header p.mode;
+          card_range = rw row.its_header p.cards;
+          pool = rw row.its_header p.pool;
           frames = as_many;
-          few = rw row.its-header p.frames;
-          each-card = λ i l.
-              let k : i < framesOf t = rw (as_many, row.its-header) at l in
-              rw (card-at i l, row.its-header) (row.lines i k).its-card;
+          few = rw row.its_header p.frames;
+          each_card = λ i l.
+              let k : i < frames_of t = rw (as_many, row.its_header) at l in
+              rw (card_at_is i l, row.its_header) (row.lines i k).its_card;
         }
 
     -- what the line of a frame says, in the words of the header that was read
     module _ (i : ℕ) (l : i < length cards) where
-      pub its-line : Line (part t) (lineBytes h.edition * i) (lineDigits h.edition)
-      its-line = let k : i < framesOf t = rw (as_many, row.its-header) at l in rw its-edition (row.lines i k).line
+      pub its_line : Line (part t) (line_bytes h.edition * i) (line_digits h.edition)
+      its_line = let k : i < frames_of t = rw (as_many, row.its_header) at l in rw its_edition (row.lines i k).line
 
-      pub its-card : cardOf cards i ≡ cardAt h.edition (part t) i
-      its-card = rw its-edition (card-at i l)
+      pub its_card : card_of cards i ≡ card_at h.edition (part t) i
+      its_card = rw its_edition (card_at_is i l)
 
-    pub line-inside : (i : ℕ) → i < length cards → lineStart t i + lineBytes (editionOf t) ≤ length t
-    line-inside i l =
-        let k : i < framesOf t = rw (as_many, row.its-header) at l in
-        omega (arith, (row.lines i k).line.inside, length-drop headerBytes t)
+    pub line_inside : (i : ℕ) → i < length cards → line_start t i + line_bytes (edition_of t) ≤ length t
+    line_inside i l =
+        let k : i < frames_of t = rw (as_many, row.its_header) at l in
+        omega (arith, (row.lines i k).line.inside, length-drop header_bytes t)
 
     -- the text is as long as its header says
-    at_least : (n : ℕ) → n ≡ length cards → lineStart t n ≤ length t
+    at_least : (n : ℕ) → n ≡ length cards → line_start t n ≤ length t
     at_least zero e = omega (arith, row.header.line.inside)
-    at_least (suc n) e = omega (arith, line-inside n (omega arith), mul-suc (lineBytes (editionOf t)) n)
+    at_least (suc n) e = omega (arith, line_inside n (omega arith), mul-suc (line_bytes (edition_of t)) n)
 
-    length-as : length t ≡ lineStart t (length cards)
-    length-as =
-        let n : length cards ≡ framesOf t = as_many ∙ ap (λ (x : Header). x.frames) row.its-header in
-        let ends : length (part t) ≤ lineBytes (editionOf t) * length cards = rw n row.ends in
-        omega (arith, at_least (length cards) refl, ends, length-drop headerBytes t)
+    length_as : length t ≡ line_start t (length cards)
+    length_as =
+        let n : length cards ≡ frames_of t = as_many ∙ ap (λ (x : Header). x.frames) row.its_header in
+        let ends : length (part t) ≤ line_bytes (edition_of t) * length cards = rw n row.ends in
+        omega (arith, at_least (length cards) refl, ends, length-drop header_bytes t)
 
-    pub text-length : length t ≡ headerBytes + lineBytes h.edition * length cards
-    text-length = length-as ∙ ap (λ (e : ℕ). headerBytes + lineBytes e * length cards) (sym its-edition)
+    pub text_length : length t ≡ header_bytes + line_bytes h.edition * length cards
+    text_length = length_as ∙ ap (λ (e : ℕ). header_bytes + line_bytes e * length cards) (sym its_edition)
 
     -- and so no longer than the longest
-    pub not-longer : length t ≤ longestTicket
-    not-longer =
-        omega (arith, text-length, eight, few_bytes h.edition (length cards) {d = lineDigits h.edition} refl (rw as_many fits.few))
+    pub not_longer : length t ≤ longest_ticket
+    not_longer =
+        omega (arith, text_length, eight, few_bytes h.edition (length cards) {d = line_digits h.edition} refl (rw as_many fits.few))

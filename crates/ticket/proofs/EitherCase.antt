@@ -4,83 +4,83 @@ use Prim.Native.Nat.{ℕ, zero, suc, ◌+◌, ◌*◌}
 use mathlib.Core.Path.{◌≡◌, refl, sym, ap, ◌∙◌}
 use mathlib.Core.List.{List}
 use lib.ListN.{length, drop}
-use Rattle.counting.proofs.Lists.{tabulate-cong}
-use Rattle.counting.proofs.Parts.{map-drop}
-use Rattle.text.specs.UpperCase.{upper, upperCase}
-use Rattle.text.proofs.UpperCase.{length-upper, number-upper, line-upper}
-use Rattle.header.specs.Editions.{cardDigits, secondDigits, lineDigits, lineBytes}
-use Rattle.header.specs.Heading.{headerDigits, headerBytes, headerOf, heading}
+use Rattle.counting.proofs.Lists.{tabulate_cong}
+use Rattle.counting.proofs.Parts.{map_drop}
+use Rattle.text.specs.UpperCase.{upper, upper_case}
+use Rattle.text.proofs.UpperCase.{length_upper, number_upper, line_upper}
+use Rattle.header.specs.Editions.{card_digits, second_digits, line_digits, line_bytes}
+use Rattle.header.specs.Heading.{header_digits, header_bytes, header_of, heading}
 use Rattle.header.specs.declared.Answer.{Answer}
 use Rattle.header.specs.declared.Answer.TheVariants.{Accepted, Refused}
-use Rattle.frame_lines.specs.Lines.{cardAt, secondAt, secondBefore, lineFault, linesFault, partFault}
-use Rattle.ticket.specs.Ticket.{Parsed, accepted, refused, parsePart, parse}
-use Rattle.ticket.specs.Seconds.{howManySeconds, secondsIn, secondsOf}
+use Rattle.frame_lines.specs.Lines.{card_at, second_at, second_before, line_fault, lines_fault, part_fault}
+use Rattle.ticket.specs.Ticket.{Parsed, accepted, refused, parse_part, parse}
+use Rattle.ticket.specs.Seconds.{how_many_seconds, seconds_in, seconds_of}
 
 -- the frame lines
 module _ (edition : ℕ) (s : List ℕ) where
-  card-upper : (i : ℕ) → cardAt edition (upperCase s) i ≡ cardAt edition s i
-  unfolding cardAt
-  card-upper i = number-upper s (lineBytes edition * i) cardDigits
+  card_upper : (i : ℕ) → card_at edition (upper_case s) i ≡ card_at edition s i
+  unfolding card_at
+  card_upper i = number_upper s (line_bytes edition * i) card_digits
 
-  second-upper : (i : ℕ) → secondAt edition (upperCase s) i ≡ secondAt edition s i
-  unfolding secondAt
-  second-upper i = number-upper s (lineBytes edition * i + cardDigits) (secondDigits edition)
+  second_upper : (i : ℕ) → second_at edition (upper_case s) i ≡ second_at edition s i
+  unfolding second_at
+  second_upper i = number_upper s (line_bytes edition * i + card_digits) (second_digits edition)
 
-  before-upper : (i : ℕ) → secondBefore edition (upperCase s) i ≡ secondBefore edition s i
-  unfolding secondBefore
-  before-upper zero = refl
-  before-upper (suc i) = second-upper i
+  before_upper : (i : ℕ) → second_before edition (upper_case s) i ≡ second_before edition s i
+  unfolding second_before
+  before_upper zero = refl
+  before_upper (suc i) = second_upper i
 
-  fault-upper : (cards i : ℕ) → lineFault edition (upperCase s) cards i ≡ lineFault edition s cards i
-  unfolding lineFault
-  fault-upper cards i = rw (line-upper s (lineBytes edition * i) (lineDigits edition), card-upper i, second-upper i, before-upper i)
+  fault_upper : (cards i : ℕ) → line_fault edition (upper_case s) cards i ≡ line_fault edition s cards i
+  unfolding line_fault
+  fault_upper cards i = rw (line_upper s (line_bytes edition * i) (line_digits edition), card_upper i, second_upper i, before_upper i)
 
-  lines-upper : (cards n : ℕ) → linesFault edition (upperCase s) cards n ≡ linesFault edition s cards n
-  unfolding linesFault
-  lines-upper cards zero = refl
-  lines-upper cards (suc n) = rw (lines-upper cards n, fault-upper cards n)
+  lines_upper : (cards n : ℕ) → lines_fault edition (upper_case s) cards n ≡ lines_fault edition s cards n
+  unfolding lines_fault
+  lines_upper cards zero = refl
+  lines_upper cards (suc n) = rw (lines_upper cards n, fault_upper cards n)
 
-  part-upper : (cards n : ℕ) → partFault edition (upperCase s) cards n ≡ partFault edition s cards n
-  unfolding partFault
-  part-upper cards n = rw (lines-upper cards n, length-upper s)
+  part_upper : (cards n : ℕ) → part_fault edition (upper_case s) cards n ≡ part_fault edition s cards n
+  unfolding part_fault
+  part_upper cards n = rw (lines_upper cards n, length_upper s)
 
 module _ (s : List ℕ) where
-  parse-part-upper : (a : Answer) → parsePart a (upperCase s) ≡ parsePart a s
-  parse-part-upper (Refused k) = refl
-  parse-part-upper (Accepted h) =
+  parse_part_upper : (a : Answer) → parse_part a (upper_case s) ≡ parse_part a s
+  parse_part_upper (Refused k) = refl
+  parse_part_upper (Accepted h) =
       rw (
-        part-upper h.edition s h.cards h.frames,
-        tabulate-cong h.frames (cardAt h.edition (upperCase s)) (cardAt h.edition s) (λ i l. card-upper h.edition s i),
+        part_upper h.edition s h.cards h.frames,
+        tabulate_cong h.frames (card_at h.edition (upper_case s)) (card_at h.edition s) (λ i l. card_upper h.edition s i),
       )
 
-  seconds-in-upper : (a : Parsed) → secondsIn a (upperCase s) ≡ secondsIn a s
-  seconds-in-upper (refused k) = refl
-  seconds-in-upper (accepted h cards) =
-      tabulate-cong (howManySeconds h.edition (length cards)) (secondAt h.edition (upperCase s)) (secondAt h.edition s)
-      (λ i l. second-upper h.edition s i)
+  seconds_in_upper : (a : Parsed) → seconds_in a (upper_case s) ≡ seconds_in a s
+  seconds_in_upper (refused k) = refl
+  seconds_in_upper (accepted h cards) =
+      tabulate_cong (how_many_seconds h.edition (length cards)) (second_at h.edition (upper_case s)) (second_at h.edition s)
+      (λ i l. second_upper h.edition s i)
 
 -- the header
 module _ (t : List ℕ) where
-  header-upper : headerOf (upperCase t) ≡ headerOf t
-  unfolding headerOf
-  header-upper = rw (number-upper t 0 2, number-upper t 2 2, number-upper t 4 2, number-upper t 6 4, number-upper t 10 4)
+  header_upper : header_of (upper_case t) ≡ header_of t
+  unfolding header_of
+  header_upper = rw (number_upper t 0 2, number_upper t 2 2, number_upper t 4 2, number_upper t 6 4, number_upper t 10 4)
 
-  heading-upper : heading (upperCase t) ≡ heading t
+  heading_upper : heading (upper_case t) ≡ heading t
   unfolding heading
-  heading-upper = rw (line-upper t 0 headerDigits, header-upper)
+  heading_upper = rw (line_upper t 0 header_digits, header_upper)
 
-  pub read_upper : parse (upperCase t) ≡ parse t
+  pub read_upper : parse (upper_case t) ≡ parse t
   unfolding parse
-  read_upper = rw (heading-upper, map-drop upper headerBytes t) (parse-part-upper (drop headerBytes t) (heading t))
+  read_upper = rw (heading_upper, map_drop upper header_bytes t) (parse_part_upper (drop header_bytes t) (heading t))
 
-  pub seconds-upper : secondsOf (upperCase t) ≡ secondsOf t
-  unfolding secondsOf
-  seconds-upper = rw (read_upper, map-drop upper headerBytes t) (seconds-in-upper (drop headerBytes t) (parse t))
+  pub seconds_upper : seconds_of (upper_case t) ≡ seconds_of t
+  unfolding seconds_of
+  seconds_upper = rw (read_upper, map_drop upper header_bytes t) (seconds_in_upper (drop header_bytes t) (parse t))
 
 -- texts that are the same in upper case are read alike
-module _ (s t : List ℕ) (e : upperCase s ≡ upperCase t) where
+module _ (s t : List ℕ) (e : upper_case s ≡ upper_case t) where
   pub read_alike : parse s ≡ parse t
   read_alike = sym (read_upper s) ∙ ap parse e ∙ read_upper t
 
-  pub seconds-alike : secondsOf s ≡ secondsOf t
-  seconds-alike = sym (seconds-upper s) ∙ ap secondsOf e ∙ seconds-upper t
+  pub seconds_alike : seconds_of s ≡ seconds_of t
+  seconds_alike = sym (seconds_upper s) ∙ ap seconds_of e ∙ seconds_upper t

@@ -9,101 +9,101 @@ use lib.ListN.{length, take, drop, replicate, length-append, length-drop}
 use borrow.Author.Tests.{eqb-true, ne_eqb}
 use Rattle.counting.specs.Count.{tabulate}
 use Rattle.counting.proofs.Bits.{by_cases}
-use Rattle.counting.proofs.Lists.{length-tabulate}
-use Rattle.counting.proofs.Parts.{from_place, drop-replicate}
-use Rattle.header.specs.Heading.{headerBytes, heading}
-use Rattle.header.specs.Limits.{maxFrames}
+use Rattle.counting.proofs.Lists.{length_tabulate}
+use Rattle.counting.proofs.Parts.{from_place, drop_replicate}
+use Rattle.header.specs.Heading.{header_bytes, heading}
+use Rattle.header.specs.Limits.{max_frames}
 use Rattle.header.specs.declared.Header.{Header}
 use Rattle.header.specs.declared.Answer.{Answer}
 use Rattle.header.specs.declared.Answer.TheVariants.{Accepted, Refused}
-use Rattle.frame_lines.specs.Lines.{cardAt, partFault, linesPassing, cardsRead}
-use Rattle.frame_lines.proofs.Faults.{all_read, passing-few}
-use Rattle.ticket.specs.Ticket.{accepted, refused, parsePart, parse, answer_in, partInto, readInto}
+use Rattle.frame_lines.specs.Lines.{card_at, part_fault, lines_passing, cards_read}
+use Rattle.frame_lines.proofs.Faults.{all_read, passing_few}
+use Rattle.ticket.specs.Ticket.{accepted, refused, parse_part, parse, answer_in, part_into, read_into}
 use Rattle.ticket.proofs.Accepted.{as_many}
-use Rattle.ticket.proofs.Reader.{header-passes, header_read}
+use Rattle.ticket.proofs.Reader.{header_passes, header_read}
 
 module _ (t : List ℕ) where
   module _ (h : Header) (e : heading t ≡ Accepted h) where
-    pub long : headerBytes ≤ length t
-    long = omega (arith, (header-passes t h e).line.inside)
+    pub long : header_bytes ≤ length t
+    long = omega (arith, (header_passes t h e).line.inside)
 
-    pub few-frames : h.frames ≤ maxFrames
-    few-frames = rw (header_read t h e) (header-passes t h e).frames
+    pub few_frames : h.frames ≤ max_frames
+    few_frames = rw (header_read t h e) (header_passes t h e).frames
 
     -- what the frame lines, the slice from byte 15 on, are answered with
-    module _ {k : ℕ} (q : k ≡ partFault h.edition (take (length t - headerBytes) (drop headerBytes t)) h.cards h.frames) where
-      fault-is : k ≡ partFault h.edition (drop headerBytes t) h.cards h.frames
-      fault-is = rw from_place at q
+    module _ {k : ℕ} (q : k ≡ part_fault h.edition (take (length t - header_bytes) (drop header_bytes t)) h.cards h.frames) where
+      fault_is : k ≡ part_fault h.edition (drop header_bytes t) h.cards h.frames
+      fault_is = rw from_place at q
 
-      pub part-refused : (k ≡ 0 → ⊥) → Refused k ≡ answer_in (parse t)
+      pub part_refused : (k ≡ 0 → ⊥) → Refused k ≡ answer_in (parse t)
       unfolding parse
-      part-refused n = rw (e, ← fault-is, ne_eqb k 0 n)
+      part_refused n = rw (e, ← fault_is, ne_eqb k 0 n)
 
-      pub part-accepted : k ≡ 0 → Accepted h ≡ answer_in (parse t)
+      pub part_accepted : k ≡ 0 → Accepted h ≡ answer_in (parse t)
       unfolding parse
-      part-accepted z = rw (e, ← fault-is, z)
+      part_accepted z = rw (e, ← fault_is, z)
 
     -- what memory then holds
-    pub part-into :
+    pub part_into_is :
         (memory : List ℕ) {after : List ℕ}
-        → after ≡ cardsRead h.edition (take (length t - headerBytes) (drop headerBytes t)) h.cards h.frames memory
-        → after ≡ readInto t memory
-    unfolding readInto
-    part-into memory {after} q = rw e (rw from_place at q)
+        → after ≡ cards_read h.edition (take (length t - header_bytes) (drop header_bytes t)) h.cards h.frames memory
+        → after ≡ read_into t memory
+    unfolding read_into
+    part_into_is memory {after} q = rw e (rw from_place at q)
 
   -- a refused header
-  pub header-into : (k : ℕ) (memory : List ℕ) → heading t ≡ Refused k → memory ≡ readInto t memory
-  unfolding readInto
-  header-into k memory e = rw e
+  pub header_into : (k : ℕ) (memory : List ℕ) → heading t ≡ Refused k → memory ≡ read_into t memory
+  unfolding read_into
+  header_into k memory e = rw e
 
 -- an accepted text: its cards stand at the front
-into-part :
-    (x : Answer) (s memory : List ℕ) (h : Header) (cards : List ℕ) → parsePart x s ≡ accepted h cards
-    → partInto x s memory ≡ cards ++ drop h.frames memory
-into-part (Refused k) s memory h cards e = let z : ◌≡◌ {A = ℕ} 0 1 = cc in absurd (omega arith)
-into-part (Accepted g) s memory h cards e =
-    by_cases (eqb (partFault g.edition s g.cards g.frames) 0)
+into_part :
+    (x : Answer) (s memory : List ℕ) (h : Header) (cards : List ℕ) → parse_part x s ≡ accepted h cards
+    → part_into x s memory ≡ cards ++ drop h.frames memory
+into_part (Refused k) s memory h cards e = let z : ◌≡◌ {A = ℕ} 0 1 = cc in absurd (omega arith)
+into_part (Accepted g) s memory h cards e =
+    by_cases (eqb (part_fault g.edition s g.cards g.frames) 0)
     (λ z.
-    let q : accepted g (tabulate g.frames (cardAt g.edition s)) ≡ accepted h cards = rw z at e in
+    let q : accepted g (tabulate g.frames (card_at g.edition s)) ≡ accepted h cards = rw z at e in
     let g-is : g ≡ h = cc in
-    let cards-are : tabulate g.frames (cardAt g.edition s) ≡ cards = cc in
+    let cards-are : tabulate g.frames (card_at g.edition s) ≡ cards = cc in
     all_read g.edition s g.cards g.frames memory (eqb-true _ _ z) ∙ rw (cards-are, g-is))
     (λ z.
-    let q : refused (partFault g.edition s g.cards g.frames) ≡ accepted h cards = rw z at e in
+    let q : refused (part_fault g.edition s g.cards g.frames) ≡ accepted h cards = rw z at e in
     let w : ◌≡◌ {A = ℕ} 0 1 = cc in
     absurd (omega arith))
 
 -- memory stays as long as it is
-long-part :
+long_part :
     (x : Answer) (s memory : List ℕ) → ((h : Header) → x ≡ Accepted h → h.frames ≤ length memory)
-    → length (partInto x s memory) ≡ length memory
-unfolding cardsRead
-long-part (Refused k) s memory few = refl
-long-part (Accepted h) s memory few =
-    let n = linesPassing h.edition s h.cards h.frames in
+    → length (part_into x s memory) ≡ length memory
+unfolding cards_read
+long_part (Refused k) s memory few = refl
+long_part (Accepted h) s memory few =
+    let n = lines_passing h.edition s h.cards h.frames in
     omega (
       arith,
-      length-append (tabulate n (cardAt h.edition s)) (drop n memory),
-      length-tabulate n (cardAt h.edition s),
+      length-append (tabulate n (card_at h.edition s)) (drop n memory),
+      length_tabulate n (card_at h.edition s),
       length-drop n memory,
-      passing-few h.edition s h.cards h.frames,
+      passing_few h.edition s h.cards h.frames,
       few h refl,
     )
 
 module _ (t memory : List ℕ) where
-  pub into-accepted : (h : Header) (cards : List ℕ) → parse t ≡ accepted h cards → readInto t memory ≡ cards ++ drop h.frames memory
-  unfolding parse readInto
-  into-accepted h cards e = into-part (heading t) (drop headerBytes t) memory h cards e
+  pub into_accepted : (h : Header) (cards : List ℕ) → parse t ≡ accepted h cards → read_into t memory ≡ cards ++ drop h.frames memory
+  unfolding parse read_into
+  into_accepted h cards e = into_part (heading t) (drop header_bytes t) memory h cards e
 
-  pub into-long : maxFrames ≤ length memory → length (readInto t memory) ≡ length memory
-  unfolding readInto
-  into-long l = long-part (heading t) (drop headerBytes t) memory (λ h e. omega (arith, few-frames t h e))
+  pub into_long : max_frames ≤ length memory → length (read_into t memory) ≡ length memory
+  unfolding read_into
+  into_long l = long_part (heading t) (drop header_bytes t) memory (λ h e. omega (arith, few_frames t h e))
 
 -- memory that was all 0
-pub into-zeros :
+pub into_zeros :
     (t : List ℕ) (h : Header) (cards : List ℕ) → parse t ≡ accepted h cards
-    → readInto t (replicate maxFrames 0) ≡ cards ++ replicate (maxFrames - length cards) 0
-into-zeros t h cards e =
-    into-accepted t (replicate maxFrames 0) h cards e
-    ∙ ap (λ k. cards ++ drop k (replicate maxFrames 0)) (sym (as_many t h cards e))
-    ∙ ap (λ rest. cards ++ rest) (drop-replicate maxFrames (length cards) 0)
+    → read_into t (replicate max_frames 0) ≡ cards ++ replicate (max_frames - length cards) 0
+into_zeros t h cards e =
+    into_accepted t (replicate max_frames 0) h cards e
+    ∙ ap (λ k. cards ++ drop k (replicate max_frames 0)) (sym (as_many t h cards e))
+    ∙ ap (λ rest. cards ++ rest) (drop_replicate max_frames (length cards) 0)

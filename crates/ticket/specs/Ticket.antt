@@ -5,15 +5,15 @@
 -- Assumes nothing.
 use Rattle.std.specs.Prelude.{ℕ, ◌+◌, ◌*◌, ◌-◌, cond, List, [], ◌++◌, eqb, ltb, length, take, drop, replicate}
 use Rattle.counting.specs.Count.{tabulate}
-use Rattle.header.specs.Editions.{edition2, lineDigits, lineBytes}
-use Rattle.header.specs.Heading.{headerBytes, editionOf, heading}
-use Rattle.header.specs.Numbers.{Numbers, acceptedAs, refusedBy}
-use Rattle.header.specs.Limits.{maxCards, maxFrames}
+use Rattle.header.specs.Editions.{edition2, line_digits, line_bytes}
+use Rattle.header.specs.Heading.{header_bytes, edition_of, heading}
+use Rattle.header.specs.Numbers.{Numbers, accepted_as, refused_by}
+use Rattle.header.specs.Limits.{max_cards, max_frames}
 use Rattle.header.specs.declared.Header.{Header}
 use Rattle.header.specs.declared.Answer.{Answer}
 use Rattle.header.specs.declared.Answer.TheVariants.{Accepted, Refused}
-use Rattle.frame_lines.specs.Lines.{cardAt, partFault, cardsRead}
-use Rattle.frame_lines.specs.Tally.{countsUpTo}
+use Rattle.frame_lines.specs.Lines.{card_at, part_fault, cards_read}
+use Rattle.frame_lines.specs.Tally.{counts_up_to}
 use Rattle.ticket.specs.declared.Ticket.{Ticket}
 
 -- What a text is read as: a header and the card of each frame in list order, or the number of a refusal.
@@ -21,16 +21,16 @@ pub data Parsed : Type 0 where
   accepted : Header → List ℕ → Parsed
   refused : ℕ → Parsed
 
-abbrev pub parsePart : Answer → List ℕ → Parsed
-parsePart (Refused k) s = refused k
-parsePart (Accepted h) s =
-    cond (eqb (partFault h.edition s h.cards h.frames) 0)
-    (accepted h (tabulate h.frames (cardAt h.edition s)))
-    (refused (partFault h.edition s h.cards h.frames))
+abbrev pub parse_part : Answer → List ℕ → Parsed
+parse_part (Refused k) s = refused k
+parse_part (Accepted h) s =
+    cond (eqb (part_fault h.edition s h.cards h.frames) 0)
+    (accepted h (tabulate h.frames (card_at h.edition s)))
+    (refused (part_fault h.edition s h.cards h.frames))
 
 -- "Tickets: 1 to 6, then line by line 7 before 8, then 9", with 17 "after 7 and 8 of the same line"
 unfoldable pub parse : List ℕ → Parsed
-parse t = parsePart (heading t) (drop headerBytes t)
+parse t = parse_part (heading t) (drop header_bytes t)
 
 -- the answer to a text, without the cards
 abbrev pub answer_in : Parsed → Answer
@@ -39,58 +39,58 @@ answer_in (refused k) = Refused k
 
 -- What lent memory holds when a text was read into it: over its front the cards of the frame lines, up to the first that does not pass. A
 -- refused header leaves it as it was.
-abbrev pub partInto : Answer → List ℕ → List ℕ → List ℕ
-partInto (Refused k) s memory = memory
-partInto (Accepted h) s memory = cardsRead h.edition s h.cards h.frames memory
+abbrev pub part_into : Answer → List ℕ → List ℕ → List ℕ
+part_into (Refused k) s memory = memory
+part_into (Accepted h) s memory = cards_read h.edition s h.cards h.frames memory
 
-unfoldable pub readInto : List ℕ → List ℕ → List ℕ
-readInto t memory = partInto (heading t) (drop headerBytes t) memory
+unfoldable pub read_into : List ℕ → List ℕ → List ℕ
+read_into t memory = part_into (heading t) (drop header_bytes t) memory
 
 -- n zeros
 unfoldable pub zeros : ℕ → List ℕ
 zeros n = replicate n 0
 
 -- The ticket as the code answers it: the cards fill the first places, the others are 0; beside a refusal all are 0.
-abbrev pub ticketOf : Parsed → Ticket
-ticketOf (accepted h cards) = record { answer = Accepted h; card = cards ++ zeros (maxFrames - length cards) }
-ticketOf (refused k) = record { answer = Refused k; card = zeros maxFrames }
+abbrev pub ticket_of : Parsed → Ticket
+ticket_of (accepted h cards) = record { answer = Accepted h; card = cards ++ zeros (max_frames - length cards) }
+ticket_of (refused k) = record { answer = Refused k; card = zeros max_frames }
 
 -- The numbers of the answer: the refusal's, 0 for an accepted ticket, and what stands in the header, all 0 beside a refusal.
-abbrev pub numbersIn : Parsed → Numbers
-numbersIn (accepted h cards) = acceptedAs h
-numbersIn (refused k) = refusedBy k
+abbrev pub numbers_in : Parsed → Numbers
+numbers_in (accepted h cards) = accepted_as h
+numbers_in (refused k) = refused_by k
 
 -- The number of the refusal, 0 for an accepted ticket.
-abbrev pub refusalOf : Parsed → ℕ
-refusalOf (accepted h cards) = 0
-refusalOf (refused k) = k
+abbrev pub refusal_of : Parsed → ℕ
+refusal_of (accepted h cards) = 0
+refusal_of (refused k) = k
 
 -- "a line is wanted at a position not below L": 16, after the ticket's own
-abbrev pub lineRefusalOf : Parsed → ℕ → ℕ
-lineRefusalOf (accepted h cards) p = cond (ltb p (length cards)) 0 16
-lineRefusalOf (refused k) p = k
+abbrev pub line_refusal_of : Parsed → ℕ → ℕ
+line_refusal_of (accepted h cards) p = cond (ltb p (length cards)) 0 16
+line_refusal_of (refused k) p = k
 
 -- the longest ticket: its header, and the widest line for each of the most frames
-abbrev pub longestTicket : ℕ
-longestTicket = headerBytes + lineBytes edition2 * maxFrames
+abbrev pub longest_ticket : ℕ
+longest_ticket = header_bytes + line_bytes edition2 * max_frames
 
 -- the byte of a ticket at which the line of frame p begins
-abbrev pub lineStart : List ℕ → ℕ → ℕ
-lineStart t p = headerBytes + lineBytes (editionOf t) * p
+abbrev pub line_start : List ℕ → ℕ → ℕ
+line_start t p = header_bytes + line_bytes (edition_of t) * p
 
 -- the bytes of that line, without its end byte
-abbrev pub lineIn : List ℕ → ℕ → List ℕ
-lineIn t p = take (lineDigits (editionOf t)) (drop (lineStart t p) t)
+abbrev pub line_in : List ℕ → ℕ → List ℕ
+line_in t p = take (line_digits (edition_of t)) (drop (line_start t p) t)
 
 -- "that frame's line as a part of the caller's own ticket, without its end byte"; empty with a refusal
 unfoldable pub line_of : List ℕ → ℕ → List ℕ
-line_of t p = cond (eqb (lineRefusalOf (parse t) p) 0) (lineIn t p) []
+line_of t p = cond (eqb (line_refusal_of (parse t) p) 0) (line_in t p) []
 
 -- and the byte of the ticket at which this part begins; the empty part stands at the ticket's first byte
-unfoldable pub linePlace : List ℕ → ℕ → ℕ
-linePlace t p = cond (eqb (lineRefusalOf (parse t) p) 0) (lineStart t p) 0
+unfoldable pub line_place : List ℕ → ℕ → ℕ
+line_place t p = cond (eqb (line_refusal_of (parse t) p) 0) (line_start t p) 0
 
 -- "A count of frames for each of the 32 cards"; beside a refusal all are 0
-abbrev pub countsOf : Parsed → List ℕ
-countsOf (accepted h cards) = countsUpTo cards (length cards)
-countsOf (refused k) = zeros maxCards
+abbrev pub counts_of : Parsed → List ℕ
+counts_of (accepted h cards) = counts_up_to cards (length cards)
+counts_of (refused k) = zeros max_cards

@@ -53,38 +53,38 @@ PositionT = P.the_row
 abbrev pub value : Bor (List ℕ) → Val
 value r = slice_val r.ref_ptr (length r.now)
 
-abbrev pub walker-vals : Walker → List Val
-walker-vals w = T'.lowered w ∷ []
+abbrev pub walker_vals : Walker → List Val
+walker_vals w = T'.lowered w ∷ []
 
-abbrev pub stepped-vals : Stepped → List Val
-stepped-vals x = U'.lowered x ∷ []
+abbrev pub stepped_vals : Stepped → List Val
+stepped_vals x = U'.lowered x ∷ []
 
-abbrev pub position-vals : Position → List Val
-position-vals p = P'.lowered p ∷ []
+abbrev pub position_vals : Position → List Val
+position_vals p = P'.lowered p ∷ []
 
-pub walker-tells : (κs : Lfts 1) → Tells (WalkerT κs) (Is (WalkerT κs)) walker-vals
-walker-tells κs = LL.tells (T.the_type (lifetime κs)) (T'.the_laws (lifetime κs))
+pub walker_tells : (κs : Lfts 1) → Tells (WalkerT κs) (Is (WalkerT κs)) walker_vals
+walker_tells κs = LL.tells (T.the_type (lifetime κs)) (T'.the_laws (lifetime κs))
 
-pub stepped-tells : (κs : Lfts 1) → Tells (SteppedT κs) (Is (SteppedT κs)) stepped-vals
-stepped-tells κs = LL.tells (U.the_type (lifetime κs)) (U'.the_laws (lifetime κs))
+pub stepped_tells : (κs : Lfts 1) → Tells (SteppedT κs) (Is (SteppedT κs)) stepped_vals
+stepped_tells κs = LL.tells (U.the_type (lifetime κs)) (U'.the_laws (lifetime κs))
 
-pub position-tells : Tells PositionT (Is PositionT) position-vals
-position-tells = LL.tells P.the_type P'.the_laws
+pub position_tells : Tells PositionT (Is PositionT) position_vals
+position_tells = LL.tells P.the_type P'.the_laws
 
-pub position-makes : {M : Type 1} {𝓤 : Ura M} (𝓛 : Logic 𝓤) → Makes 𝓛 PositionT (Is PositionT)
-position-makes 𝓛 = LL.makes P.the_type P'.the_plain 𝓛
+pub position_makes : {M : Type 1} {𝓤 : Ura M} (𝓛 : Logic 𝓤) → Makes 𝓛 PositionT (Is PositionT)
+position_makes 𝓛 = LL.makes P.the_type P'.the_plain 𝓛
 
 module _ {M : Type 1} {𝓤 : Ura M} (𝓛 : Logic 𝓤) where
-  pub walker-copy : (κs : Lfts 1) → Copy 𝓛 (WalkerT κs)
-  walker-copy κs = LL.copy (T.the_type (lifetime κs)) (T'.the_copy (lifetime κs)) 𝓛
+  pub walker_copy : (κs : Lfts 1) → Copy 𝓛 (WalkerT κs)
+  walker_copy κs = LL.copy (T.the_type (lifetime κs)) (T'.the_copy (lifetime κs)) 𝓛
 
-  pub walker-typed : (α : NamedLft) (w : Walker) → Is (T.the_row α) w (walker-vals w)
+  pub walker_typed : (α : NamedLft) (w : Walker) → Is (T.the_row α) w (walker_vals w)
       → Holds (has_ty (T'.mir α.mir) (T'.lowered w)) × WT (T'.lowered w)
-  walker-typed α w is = ((LL.lawful (T.the_type α) (T'.the_laws α) 𝓛).typed w (walker-vals w) is).0
+  walker_typed α w is = ((LL.lawful (T.the_type α) (T'.the_laws α) 𝓛).typed w (walker_vals w) is).0
 
-  pub stepped-typed : (α : NamedLft) (x : Stepped) → Is (U.the_row α) x (stepped-vals x)
+  pub stepped_typed : (α : NamedLft) (x : Stepped) → Is (U.the_row α) x (stepped_vals x)
       → Holds (has_ty (U'.mir α.mir) (U'.lowered x)) × WT (U'.lowered x)
-  stepped-typed α x is = ((LL.lawful (U.the_type α) (U'.the_laws α) 𝓛).typed x (stepped-vals x) is).0
+  stepped_typed α x is = ((LL.lawful (U.the_type α) (U'.the_laws α) 𝓛).typed x (stepped_vals x) is).0
 
-  pub position-typed : (p : Position) → Is PositionT p (position-vals p) → Holds (has_ty P'.mir (P'.lowered p)) × WT (P'.lowered p)
-  position-typed p is = ((LL.lawful P.the_type P'.the_laws 𝓛).typed p (position-vals p) is).0
+  pub position_typed : (p : Position) → Is PositionT p (position_vals p) → Holds (has_ty P'.mir (P'.lowered p)) × WT (P'.lowered p)
+  position_typed p is = ((LL.lawful P.the_type P'.the_laws 𝓛).typed p (position_vals p) is).0

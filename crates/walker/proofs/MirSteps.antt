@@ -65,17 +65,17 @@ module _ {M : Type 1} {𝓤 : Ura M} (𝓛 : Logic 𝓤) (S : Ended) (c : Clause
     abbrev Returned : Known → Result.Denot → List (Item 𝓤) → List (Item 𝓤)
     Returned k r Γ = ‵ (Result.own_val r (k.vals r)) ∷ raw (alive 𝓛 S.signature x.0 x.1) ∷ Γ
 
-    known-fact : (k : Known) (r : Result.Denot) → ent 𝓤 (ensured 𝓛 S c x.0 x.3 g r) (fact 𝓤 (k.says r))
-    known-fact k r = ex_e 𝓤 _ (λ ws. via 𝓤 _ (snd∗ 𝓤 (sem 𝓛 (lasts S x.0 x.3 ws)) _) (k.stated r _))
+    known_fact : (k : Known) (r : Result.Denot) → ent 𝓤 (ensured 𝓛 S c x.0 x.3 g r) (fact 𝓤 (k.says r))
+    known_fact k r = ex_e 𝓤 _ (λ ws. via 𝓤 _ (snd∗ 𝓤 (sem 𝓛 (lasts S x.0 x.3 ws)) _) (k.stated r _))
 
 -- the cell of a local
 abbrev at_local : {M : Type 1} (𝓤 : Ura M) (H : Heap 𝓤) (E : Env 𝓤 H) → ℕ → Share → Val → Item 𝓤
 at_local 𝓤 H E i q v = ‵ (fat q (spot_of 𝓤 H E i).0 (spot_of 𝓤 H E i).1 zero v)
 
 module _ {M : Type 1} {𝓤 : Ura M} (𝓛 : Logic 𝓤) (N : Declared) (L : Lawss N.parts) where
-  pub own-field : (k : ℕ) (v : Values N.parts) (w : Val)
+  pub own_field : (k : ℕ) (v : Values N.parts) (w : Val)
       → ent 𝓤 (sem 𝓛 ((Struct (shape N)).own_val (intos N.parts v) (w ∷ []))) (sem 𝓛 (field_own N.parts L k (get_at N.parts k v)))
-  own-field k v w =
+  own_field k v w =
       let field : Item 𝓤 = ‵ (field_own N.parts L k (get_at N.parts k v)) in
       qed 𝓛 (‵ ((Struct (shape N)).own_val (intos N.parts v) (w ∷ [])) ∷ []) ∵
       use1 𝓛 (given (w ∷ [] ≡ vstruct (spelled N.parts L v) ∷ []) (‵ (all_own N.parts L v))) (own_open 𝓛 N L v w) $ learn ! (λ _.
@@ -103,15 +103,15 @@ module _ {M : Type 1} {𝓤 : Ura M} {𝓛 : Logic 𝓤} {K : Type 0} {Γ : List
         → Opds K 𝓛 Γ E (copy (place i []) ∷ []) (v ∷ [])
     one_local t n e = and_then t (reads_local t n e) (no_more t)
 
-    pub two-locals : K → (m n : ℕ) {i j : ℕ} {q q' : Share} {u v : Val} → nth 𝓛 m Γ ≡ at_local 𝓤 H E i q u
+    pub two_locals : K → (m n : ℕ) {i j : ℕ} {q q' : Share} {u v : Val} → nth 𝓛 m Γ ≡ at_local 𝓤 H E i q u
         → nth 𝓛 n Γ ≡ at_local 𝓤 H E j q' v → Opds K 𝓛 Γ E (copy (place i []) ∷ copy (place j []) ∷ []) (u ∷ v ∷ [])
-    two-locals t m n e e' = and_then t (reads_local t m e) (one_local t n e')
+    two_locals t m n e e' = and_then t (reads_local t m e) (one_local t n e')
 
-    pub a-field : K → (n : ℕ) {i k : ℕ} {q : Share} {ν : Sym} {τs : Tys} {vs : Vals} {τ : Ty} {d : ℕ}
+    pub a_field : K → (n : ℕ) {i k : ℕ} {q : Share} {ν : Sym} {τs : Tys} {vs : Vals} {τ : Ty} {d : ℕ}
         → nth 𝓛 n Γ ≡ ‵ (fat q (ty_struct ν τs) (spot_of 𝓤 H E i).1 zero (vstruct vs))
         → field_of (spot_of 𝓤 H E i).0 k ≡ found (τ, d) → field_at zero τs k ≡ found (τ, d)
         → Rv K 𝓛 Γ E (rv_opd (copy (place i (field k ∷ [])))) (get_v vs k)
-    a-field t n {i} {k} {q} {ν} {τs} {vs} cell at at' =
+    a_field t n {i} {k} {q} {ν} {τs} {vs} cell at at' =
         let b : ℕ = (spot_of 𝓤 H E i).1 in
         let Within : Item 𝓤 → Type 2 = λ j. Part K 𝓛 j q (ty_struct ν τs) b zero (vstruct vs) (λ u. ‵ (fat q (ty_struct ν τs) b zero u)) in
         of_opd t (load t (from t (fld t at (stop t))) (look_in t n (sub t k at' (subst Within (sym cell) (whole t)))))
@@ -121,28 +121,28 @@ module _ {M : Type 1} {𝓤 : Ura M} {𝓛 : Logic 𝓤} {K : Type 0} {Γ : List
   twice t R x vs c = step (λ s. use1 𝓛 (‵ (R.own_val x vs) ⊛ ‵ (R.own_val x vs)) (c.twice x vs) $ split t $ s)
 
   module _ {E : Env 𝓤 H} {C : Calls 𝓤 H} {Λ : Loops 𝓤 H} {q : Post 𝓤 H} {f : Name} {xs : List Operand} {d : Place} {rest : Body} where
-    pub calls-known : K → FmC 𝓤 H 𝓛.laws C → (S : Ended) (c : Clauses 𝓤 S) → Triple 𝓤 (C f) (Callee 𝓛 S c)
+    pub calls_known : K → FmC 𝓤 H 𝓛.laws C → (S : Ended) (c : Clauses 𝓤 S) → Triple 𝓤 (C f) (Callee 𝓛 S c)
         → (x : Bound 𝓛 S.signature) (g : (c x.0 x.3).ghost) (k : Known 𝓛 S c x g)
         → Opds K 𝓛 (raw ((Callee 𝓛 S c).pre (x, g)) ∷ Γ) E xs (passed 𝓛 S.signature x)
         → ((r : Res S.signature x.0) → k.says r → Is (type_at S.signature.result x.0) r (k.vals r)
         → Seq K 𝓛 (Returned 𝓛 S c x g k r Γ) (lands C Λ E d (only (k.vals r)) rest q))
         → Seq K 𝓛 (raw ((Callee 𝓛 S c).pre (x, g)) ∷ Γ) (runs C Λ E (seq (call f xs d) rest) q)
-    calls-known t fm S c met x g k os after =
+    calls_known t fm S c met x g k os after =
         let R : RattleType = type_at S.signature.result x.0 in
         let tokens : Item 𝓤 = raw (alive 𝓛 S.signature x.0 x.1) in
         let Ensured : R.Denot → Item 𝓤 = λ r. raw (ensured 𝓛 S c x.0 x.3 g r) in
         calls_at t fm (Callee 𝓛 S c) met (x, g) os (λ u.
         use1 𝓛 (later (some (λ (r : R.Denot). (tokens ⊛ ‵ (R.own_val r (u ∷ []))) ⊛ Ensured r))) (id⊢ 𝓤 _) $ await t tt $ pick t (λ r.
-        split t $ move t (1 ∷ []) $ use1 𝓛 (raw (fact 𝓤 (k.says r))) (known-fact 𝓛 S c x g k r) $ heard t (k.says r) (λ e.
+        split t $ move t (1 ∷ []) $ use1 𝓛 (raw (fact 𝓤 (k.says r))) (known_fact 𝓛 S c x g k r) $ heard t (k.says r) (λ e.
         split t $ move t (1 ∷ []) $ peeks t R (Is R) (shows 𝓛 R) r (u ∷ []) (λ is.
         let told : u ∷ [] ≡ k.vals r = k.tells r (u ∷ []) is in
         subst (λ (vs : List Val). Seq K 𝓛 (‵ (R.own_val r vs) ∷ tokens ∷ Γ) (lands C Λ E d (only vs) rest q)) (sym told)
         (after r e (subst (Is R r) told is))))))
 
-  pub frees-at : K → (n : ℕ) {τ : Ty} {b : ℕ} {v : Val} {E : Env 𝓤 H} {g : Goal 𝓤 H}
+  pub frees_at : K → (n : ℕ) {τ : Ty} {b : ℕ} {v : Val} {E : Env 𝓤 H} {g : Goal 𝓤 H}
       → nth 𝓛 n Γ ≡ ‵ (fat full_share τ b zero v) → nth 𝓛 n (del 𝓛 n Γ) ≡ ‵ (fdies τ b)
       → Step K 𝓛 (del 𝓛 n (del 𝓛 n Γ)) (frees E g) Γ (frees ((τ, b) ∷ E) g)
-  frees-at t n {τ} {b} {v} {E} {g} is-cell is-end = step (λ s.
+  frees_at t n {τ} {b} {v} {E} {g} is-cell is-end = step (λ s.
       let cell : Item 𝓤 = ‵ (fat full_share τ b zero v) in
       let end : Item 𝓤 = ‵ (fdies τ b) in
       let others : List (Item 𝓤) = del 𝓛 n Γ in

@@ -5,16 +5,16 @@
 -- contracts speak of all of them; `WalksOn` says which ones are on a ticket.
 -- Assumes nothing.
 use Rattle.std.specs.Prelude.{ℕ, zero, suc, ◌+◌, Bool, ◌&&◌, cond, ◌≡◌, List, [], ◌∷◌, ◌++◌, eqb, ltb, length}
-use Rattle.header.specs.Editions.{lineDigits}
-use Rattle.header.specs.Heading.{editionOf}
-use Rattle.header.specs.Limits.{maxFrames}
-use Rattle.ticket.specs.Ticket.{parse, refusalOf, lineStart, lineIn, line_of}
+use Rattle.header.specs.Editions.{line_digits}
+use Rattle.header.specs.Heading.{edition_of}
+use Rattle.header.specs.Limits.{max_frames}
+use Rattle.ticket.specs.Ticket.{parse, refusal_of, line_start, line_in, line_of}
 use Rattle.counting.specs.declared.Position.{Position}
 use Rattle.walker.specs.declared.Walker.{Walker}
 
 -- "Starting it meets the ticket's own refusals": a walker goes through the bytes of an accepted ticket, and through none of a refused one.
 unfoldable pub opened : List ℕ → List ℕ
-opened t = cond (eqb (refusalOf (parse t)) 0) t []
+opened t = cond (eqb (refusal_of (parse t)) 0) t []
 
 -- "end" is said by the empty part: no line is empty.
 abbrev pub end : List ℕ
@@ -22,20 +22,20 @@ end = []
 
 -- The line at a position of such bytes, as wide as their edition says. No ticket has more lines than the limit.
 module _ (bytes : List ℕ) (p : ℕ) where
-  unfoldable pub hasLine : Bool
-  hasLine = ltb p maxFrames && ltb (lineStart bytes p + lineDigits (editionOf bytes)) (length bytes)
+  unfoldable pub has_line : Bool
+  has_line = ltb p max_frames && ltb (line_start bytes p + line_digits (edition_of bytes)) (length bytes)
 
   -- the line, or the end
   unfoldable pub line_at : List ℕ
-  line_at = cond hasLine (lineIn bytes p) end
+  line_at = cond has_line (line_in bytes p) end
 
   -- the byte at which this part begins; the empty part stands at the first byte
-  unfoldable pub placeAt : ℕ
-  placeAt = cond hasLine (lineStart bytes p) 0
+  unfoldable pub place_at : ℕ
+  place_at = cond has_line (line_start bytes p) 0
 
   -- the position that is next after it; at the end it stays
   unfoldable pub next_at : ℕ
-  next_at = cond hasLine (p + 1) p
+  next_at = cond has_line (p + 1) p
 
 module _ (w : Walker) where
   -- what a step gives: a line, or the end
@@ -43,8 +43,8 @@ module _ (w : Walker) where
   gives = line_at w.ticket.now w.next.0
 
   -- the byte at which that part begins
-  abbrev pub givesFrom : ℕ
-  givesFrom = placeAt w.ticket.now w.next.0
+  abbrev pub gives_from : ℕ
+  gives_from = place_at w.ticket.now w.next.0
 
   -- the walker at another position
   abbrev pub moved_to : Position → Walker
@@ -70,6 +70,6 @@ pub record WalksOn (t : List ℕ) (p : ℕ) (w : Walker) : Type 0 where
   pub position : w.next.0 ≡ p
 
 -- the reader's lines at the first n positions, in list order
-abbrev pub readerLines : List ℕ → ℕ → List (List ℕ)
-readerLines t zero = []
-readerLines t (suc n) = readerLines t n ++ (line_of t n ∷ [])
+abbrev pub reader_lines : List ℕ → ℕ → List (List ℕ)
+reader_lines t zero = []
+reader_lines t (suc n) = reader_lines t n ++ (line_of t n ∷ [])

@@ -2,8 +2,8 @@
 // A walker that has no line left, or was refused, gives the empty part, which says "end". The ticket is read once, when a walker starts.
 ghost use Rattle.std.specs.Prelude.{◌≡◌};
 ghost use Rattle.ticket.specs.Part.{address};
-ghost use Rattle.ticket.specs.Ticket.{line_of, linePlace};
-ghost use Rattle.walker.specs.Walk.{opened, hasLine, line_at, placeAt, next_at, WalksOn, moved_to, gives, givesFrom, stepped};
+ghost use Rattle.ticket.specs.Ticket.{line_of, line_place};
+ghost use Rattle.walker.specs.Walk.{opened, has_line, line_at, place_at, next_at, WalksOn, moved_to, gives, gives_from, stepped};
 
 use counting::Position;
 use header::limits;
@@ -35,7 +35,7 @@ pub fn opened(ticket: &[u8]) -> &[u8]
 
 // Whether such bytes have a line at a position.
 fn has_line(bytes: &[u8], p: Position) -> bool
-    ensures { result ≡ hasLine bytes.now p.0 }
+    ensures { result ≡ has_line bytes.now p.0 }
 {
     if limits::MAX_FRAMES <= p.0 {
         return false;
@@ -46,7 +46,7 @@ fn has_line(bytes: &[u8], p: Position) -> bool
 // That line, empty where there is none.
 pub fn line_at(bytes: &[u8], p: Position) -> &[u8]
     ensures { (result.now ≡ line_at bytes.now p.0)
-        × (result.ref_ptr ≡ address bytes.entry.ref_ptr (placeAt bytes.now p.0)) }
+        × (result.ref_ptr ≡ address bytes.entry.ref_ptr (place_at bytes.now p.0)) }
 {
     if has_line(bytes, p) {
         let at = ticket::line_start(bytes, p);
@@ -90,7 +90,7 @@ impl<'a> Walker<'a> {
     // The next line, empty at the end, and the walker after it.
     pub fn step(self) -> Stepped<'a>
         ensures { (result.line.now ≡ gives self.entry)
-            × (result.line.ptr ≡ address self.entry.ticket.ptr (givesFrom self.entry))
+            × (result.line.ptr ≡ address self.entry.ticket.ptr (gives_from self.entry))
             × (result.walker ≡ stepped self.entry) }
     {
         Stepped {
@@ -106,7 +106,7 @@ impl<'a> Walker<'a> {
 // The line that a walker gives at a position of a ticket: the reader's line there. A caller of this function holds no walker.
 pub fn nth(ticket: &[u8], p: Position) -> &[u8]
     ensures { (result.now ≡ line_of ticket.now p.0)
-        × (result.ref_ptr ≡ address ticket.entry.ref_ptr (linePlace ticket.now p.0)) }
+        × (result.ref_ptr ≡ address ticket.entry.ref_ptr (line_place ticket.now p.0)) }
 {
     Walker::start(ticket).at(p).step().line
 }

@@ -1,7 +1,7 @@
 -- `checker::check` meets its contract.
 -- Assumes nothing.
 use Rattle.checker.proofs.Accepts.{contract}
-use Rattle.checker.proofs.Answers.{ticket-refused}
+use Rattle.checker.proofs.Answers.{ticket_refused}
 use borrow.Author.Rules.{rules}
 use Rattle.checker.proofs.check.Statement.{statement}
 use Rattle.checker.proofs.check.Tie as tie
@@ -26,7 +26,7 @@ check-list-requires c κs =
 returns : tie.Need-returns
 returns c =
     let read = c.before.before.before.read.ensures.1.1.1 in
-    contract _ _ _ (rw (read.refusal _ c.before.answer.given.1) (ticket-refused _ _))
+    contract _ _ _ (rw (read.refusal _ c.before.answer.given.1) (ticket_refused _ _))
 
 returns-2 : tie.Need-returns-2
 returns-2 c =
@@ -34,8 +34,8 @@ returns-2 c =
     let accepted = c.before.before.before.answer2.given.1 in
     contract _ _ _ (rw (read.list _ accepted) c.check-list.ensures)
 
-pub check-spec : {M : Type 1} → statement M
-check-spec =
+pub check_spec : {M : Type 1} → statement M
+check_spec =
     tie.close
     (tie.spec
     read-requires

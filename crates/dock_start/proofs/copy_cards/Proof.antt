@@ -3,7 +3,7 @@
 use borrow.Author.Rules.{rules}
 use Prim.Native.Nat.{◌-◌}
 use native.Mathlib.Omega.{arith}
-use Rattle.dock_start.proofs.Placing.{Placed, none-placed, placed-length, placed-next, placed-all}
+use Rattle.dock_start.proofs.Placing.{Placed, none_placed, placed_length, placed_next, placed_all}
 use Rattle.dock_start.proofs.copy_cards.Statement.{statement}
 use Rattle.dock_start.proofs.copy_cards.Tie as tie
 
@@ -14,13 +14,13 @@ abbrev decreases-loop : tie.decreases-loop
 decreases-loop cards memory₀ n i₀ memory i = n - i
 
 loop-holds : tie.Need-loop-init invariant-loop decreases-loop
-loop-holds c = none-placed _ _
+loop-holds c = none_placed _ _
 
 shared-slice-read-memory : tie.Need-shared-slice-read-memory invariant-loop decreases-loop
 shared-slice-read-memory c = search rules
 
 slice-write-memory : tie.Need-slice-write-memory invariant-loop decreases-loop
-slice-write-memory c = omega (arith, placed-length c.before.before.before.requires c.before.before.loop.invariant, c.before.before.before.requires)
+slice-write-memory c = omega (arith, placed_length c.before.before.before.requires c.before.before.loop.invariant, c.before.before.before.requires)
 
 add-i : tie.Need-overflow-add-i invariant-loop decreases-loop
 add-i c = search rules
@@ -29,16 +29,16 @@ loop-less : tie.Need-loop-smaller invariant-loop decreases-loop
 loop-less c = search rules
 
 loop-again : tie.Need-loop-preserved invariant-loop decreases-loop
-loop-again c = placed-next c.before.before.before.requires c.before.before.loop.invariant c.before.loop-test.true
+loop-again c = placed_next c.before.before.before.requires c.before.before.loop.invariant c.before.loop-test.true
 
 same_length : tie.Need-same-length invariant-loop decreases-loop
-same_length c = placed-length c.before.before.requires c.before.loop.invariant
+same_length c = placed_length c.before.before.requires c.before.loop.invariant
 
 returns : tie.Need-returns invariant-loop decreases-loop
-returns c = placed-all c.before.before.requires c.before.loop.invariant c.loop-test.false
+returns c = placed_all c.before.before.requires c.before.loop.invariant c.loop-test.false
 
-pub copy-cards-spec : {M : Type 1} → statement M
-copy-cards-spec =
+pub copy_cards_spec : {M : Type 1} → statement M
+copy_cards_spec =
     tie.close
     (tie.spec
     invariant-loop

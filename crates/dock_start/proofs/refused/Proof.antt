@@ -10,5 +10,5 @@ empty-requires c κs = search rules
 returns : tie.Need-returns
 returns c = rw c.empty.ensures
 
-pub refused-spec : {M : Type 1} → statement M
-refused-spec = tie.close (tie.spec empty-requires returns)
+pub refused_spec : {M : Type 1} → statement M
+refused_spec = tie.close (tie.spec empty-requires returns)

@@ -1,6 +1,6 @@
 -- `dock_start::start` meets its contract.
 -- Assumes nothing.
-use Rattle.dock_start.proofs.Starting.{ticket-refused}
+use Rattle.dock_start.proofs.Starting.{ticket_refused}
 use borrow.Author.Rules.{rules}
 use Rattle.dock_start.proofs.start.Statement.{statement}
 use Rattle.dock_start.proofs.start.Tie as tie
@@ -28,7 +28,7 @@ start-list-requires c κs =
 returns : tie.Need-returns
 returns c =
     let read = c.before.before.before.before.read.ensures.1.1.1 in
-    rw (read.refusal _ c.before.before.answer.given.1) (ticket-refused _ _ c.refused.ensures _)
+    rw (read.refusal _ c.before.before.answer.given.1) (ticket_refused _ _ c.refused.ensures _)
 
 same_length : tie.Need-same-length
 same_length c = search rules

@@ -33,8 +33,8 @@ returns-2 c =
     let s = c.before.before.before.before.before.before in
     started _ _ _ s.before.before.before.before.requires s.if1.false _ c.empty.ensures _ c.before.before.before.copy-cards.ensures
 
-pub start-list-spec : {M : Type 1} → statement M
-start-list-spec =
+pub start_list_spec : {M : Type 1} → statement M
+start_list_spec =
     tie.close
     (tie.spec
     cast-n

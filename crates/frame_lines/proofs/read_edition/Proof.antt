@@ -4,7 +4,7 @@ use mathlib.Core.Path.{◌≡◌}
 use native.Mathlib.Omega.{arith}
 use Rattle.header.specs.Editions.{edition2}
 use Rattle.header.proofs.Widths.{no_second}
-use Rattle.frame_lines.proofs.WholePart.{same-edition}
+use Rattle.frame_lines.proofs.WholePart.{same_edition}
 use borrow.Author.Rules.{rules}
 use Rattle.frame_lines.proofs.read_edition.Statement.{statement}
 use Rattle.frame_lines.proofs.read_edition.Tie as tie
@@ -24,7 +24,7 @@ same_length c = search rules
 returns : tie.Need-returns
 returns c =
     let e : c.before.before.before.before.before.before.before.before.before.args.edition ≡ edition2 = omega arith in
-    same-edition e c.before.before.read-2.ensures
+    same_edition e c.before.before.read-2.ensures
 
 read-1-requires : tie.Need-read-1-requires
 read-1-requires c κs =
@@ -37,8 +37,8 @@ same-length-2 c = search rules
 returns-2 : tie.Need-returns-2
 returns-2 c = c.before.before.read-1.ensures
 
-pub read-edition-spec : {M : Type 1} → statement M
-read-edition-spec =
+pub read_edition_spec : {M : Type 1} → statement M
+read_edition_spec =
     tie.close
     (tie.spec
     wide-values-requires

@@ -6,7 +6,7 @@ use native.Mathlib.Omega.{arith}
 use lib.ListN.{take}
 use lib.Seq.{take_all}
 use Rattle.counting.specs.Count.{largest}
-use Rattle.counting.proofs.Lists.{largest-take}
+use Rattle.counting.proofs.Lists.{largest_take}
 use borrow.Author.Rules.{rules}
 use Rattle.greedy_pass.proofs.largest.Statement.{statement}
 use Rattle.greedy_pass.proofs.largest.Tie as tie
@@ -36,7 +36,7 @@ loop-again : tie.Need-loop-preserved invariant-loop decreases-loop
 loop-again c =
     let l = c.before.before.before.loop in
     let start = c.before.before.before.before in
-    (omega arith, omega (arith, l.invariant.1, largest-take start.args.latest.now l.c (omega (arith, start.requires))))
+    (omega arith, omega (arith, l.invariant.1, largest_take start.args.latest.now l.c (omega (arith, start.requires))))
 
 loop-less-2 : tie.Need-loop-smaller-2 invariant-loop decreases-loop
 loop-less-2 c = search rules
@@ -45,15 +45,15 @@ loop-again-2 : tie.Need-loop-preserved-2 invariant-loop decreases-loop
 loop-again-2 c =
     let l = c.before.before.before.loop in
     let start = c.before.before.before.before in
-    (omega arith, omega (arith, l.invariant.1, largest-take start.args.latest.now l.c (omega (arith, start.requires))))
+    (omega arith, omega (arith, l.invariant.1, largest_take start.args.latest.now l.c (omega (arith, start.requires))))
 
 returns : tie.Need-returns invariant-loop decreases-loop
 returns c =
     let l = c.before.loop in
     rw (take_all l.c c.before.before.args.latest.now (omega (arith, c.before.before.requires))) at l.invariant.1
 
-pub largest-spec : {M : Type 1} → statement M
-largest-spec =
+pub largest_spec : {M : Type 1} → statement M
+largest_spec =
     tie.close
     (tie.spec
     invariant-loop

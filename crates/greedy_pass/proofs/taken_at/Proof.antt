@@ -17,5 +17,5 @@ returns c = (rw c.if1.true (omega arith), omega arith)
 returns-2 : tie.Need-returns-2
 returns-2 c = search rules
 
-pub taken-at-spec : {M : Type 1} → statement M
-taken-at-spec = tie.close (tie.spec sub-result sub-result-2 returns returns-2)
+pub taken_at_spec : {M : Type 1} → statement M
+taken_at_spec = tie.close (tie.spec sub-result sub-result-2 returns returns-2)

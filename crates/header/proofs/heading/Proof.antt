@@ -2,7 +2,7 @@
 -- Assumes nothing.
 use mathlib.Core.Path.{ap}
 use borrow.Author.Rules.{rules}
-use Rattle.header.specs.Numbers.{numbersOf}
+use Rattle.header.specs.Numbers.{numbers_of}
 use Rattle.header.proofs.heading.Statement.{statement}
 use Rattle.header.proofs.heading.Tie as tie
 
@@ -13,7 +13,7 @@ read-heading-requires : tie.Need-read-heading-requires
 read-heading-requires c κs = search rules
 
 returns : tie.Need-returns
-returns c = (c.read-heading.ensures, ap numbersOf c.read-heading.ensures)
+returns c = (c.read-heading.ensures, ap numbers_of c.read-heading.ensures)
 
-pub heading-spec : {M : Type 1} → statement M
-heading-spec = tie.close (tie.spec digit-values-requires read-heading-requires returns)
+pub heading_spec : {M : Type 1} → statement M
+heading_spec = tie.close (tie.spec digit-values-requires read-heading-requires returns)

@@ -5,7 +5,7 @@ use mathlib.Core.Path.{◌≡◌, refl, sym}
 use mathlib.Core.Bool.{true, true≢false}
 use native.Mathlib.Omega.{arith}
 use Rattle.hub.specs.Words.{AllOf}
-use Rattle.hub.proofs.Placing.{all-of-more}
+use Rattle.hub.proofs.Placing.{all_of_more}
 use borrow.Author.Rules.{rules}
 use Rattle.hub.proofs.all_of.Statement.{statement}
 use Rattle.hub.proofs.all_of.Tie as tie
@@ -46,7 +46,7 @@ loop-again-2 c =
     let given = c.before.before.before.before.args in (
       omega arith,
       (
-        λ e. all-of-more given.camera given.cameras.now given.at at.j (at.invariant.1.0 e) c.if1.false,
+        λ e. all_of_more given.camera given.cameras.now given.at at.j (at.invariant.1.0 e) c.if1.false,
         λ all. at.invariant.1.1 (λ j l. all j (omega arith)),
       ),
     )
@@ -57,8 +57,8 @@ returns c =
     let all : at.j ≡ 8 = omega arith in
     rw all at at.invariant.1
 
-pub all-of-spec : {M : Type 1} → statement M
-all-of-spec =
+pub all_of_spec : {M : Type 1} → statement M
+all_of_spec =
     tie.close
     (tie.spec
     invariant-loop

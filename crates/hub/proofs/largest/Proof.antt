@@ -7,7 +7,7 @@ use native.Mathlib.Omega.{arith}
 use lib.ListN.{take}
 use lib.Seq.{take_all}
 use Rattle.counting.specs.Count.{largest}
-use Rattle.counting.proofs.Lists.{largest-take}
+use Rattle.counting.proofs.Lists.{largest_take}
 use Rattle.hub.proofs.largest.Statement.{statement}
 use Rattle.hub.proofs.largest.Tie as tie
 
@@ -33,7 +33,7 @@ loop-again : tie.Need-loop-preserved invariant-loop decreases-loop
 loop-again c =
     let l = c.before.before.before.loop in
     let numbers = c.before.before.before.before.args.numbers.now in
-    (omega arith, omega (arith, l.invariant.1, largest-take numbers l.i c.before.before.loop-test.true))
+    (omega arith, omega (arith, l.invariant.1, largest_take numbers l.i c.before.before.loop-test.true))
 
 loop-less-2 : tie.Need-loop-smaller-2 invariant-loop decreases-loop
 loop-less-2 c = search rules
@@ -42,13 +42,13 @@ loop-again-2 : tie.Need-loop-preserved-2 invariant-loop decreases-loop
 loop-again-2 c =
     let l = c.before.before.before.loop in
     let numbers = c.before.before.before.before.args.numbers.now in
-    (omega arith, omega (arith, l.invariant.1, largest-take numbers l.i c.before.before.loop-test.true))
+    (omega arith, omega (arith, l.invariant.1, largest_take numbers l.i c.before.before.loop-test.true))
 
 returns : tie.Need-returns invariant-loop decreases-loop
 returns c = rw (take_all c.before.loop.i c.before.before.args.numbers.now c.loop-test.false) at c.before.loop.invariant.1
 
-pub largest-spec : {M : Type 1} → statement M
-largest-spec =
+pub largest_spec : {M : Type 1} → statement M
+largest_spec =
     tie.close
     (tie.spec
     invariant-loop

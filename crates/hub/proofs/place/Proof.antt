@@ -4,7 +4,7 @@ use Prim.Native.Nat.{◌-◌, ◌≤◌}
 use native.Mathlib.Omega.{arith}
 use lib.ListN.{get_or}
 use Rattle.hub.specs.Words.{Placing}
-use Rattle.hub.proofs.Placing.{placing-none, placing-length, inside, placing-eight, all_placed}
+use Rattle.hub.proofs.Placing.{placing_none, placing_length, inside, placing_eight, all_placed}
 use borrow.Author.Rules.{rules}
 use Rattle.hub.proofs.place.Statement.{statement}
 use Rattle.hub.proofs.place.Tie as tie
@@ -21,7 +21,7 @@ words-of-requires c κs = c.before.before.before.requires.known
 loop-holds : tie.Need-loop-init invariant-loop decreases-loop
 loop-holds c =
     let entry = c.before.before.before.before in
-    (omega arith, placing-none _ _ _ entry.requires.known entry.requires.seen entry.requires.room _ c.words_of.ensures)
+    (omega arith, placing_none _ _ _ entry.requires.known entry.requires.seen entry.requires.room _ c.words_of.ensures)
 
 sub-loop : tie.Need-overflow-sub-loop invariant-loop decreases-loop
 sub-loop c = search rules
@@ -54,7 +54,7 @@ put-eight-requires : tie.Need-put-eight-requires invariant-loop decreases-loop
 put-eight-requires c κs =
     let entry = c.before.before.before.before.before.before.before.before.before.before.before in
     let at = c.before.before.before.before.before.before.loop in
-    omega (arith, placing-length _ _ _ entry.requires.known entry.requires.seen entry.requires.room at.i _ _ at.invariant.1 at.invariant.0, entry.requires.room)
+    omega (arith, placing_length _ _ _ entry.requires.known entry.requires.seen entry.requires.room at.i _ _ at.invariant.1 at.invariant.0, entry.requires.room)
 
 loop-less : tie.Need-loop-smaller invariant-loop decreases-loop
 loop-less c = search rules
@@ -66,14 +66,14 @@ loop-again c =
     let camera = get_or entry.args.cameras.now at.i 0 in
     let same = c.before.before.before.before.before.before.all_of.ensures.0 c.before.before.before.before.before.if1.true in
     let block =
-    placing-eight _ _ _ entry.requires.known entry.requires.seen entry.requires.room at.i at.words at.cards at.invariant.1 (omega arith) camera same in
+    placing_eight _ _ _ entry.requires.known entry.requires.seen entry.requires.room at.i at.words at.cards at.invariant.1 (omega arith) camera same in
     (omega arith, rw (c.before.before.put-eight.ensures, c.before.before.before.index.ensures) block)
 
 place-each-requires : tie.Need-place-each-requires invariant-loop decreases-loop
 place-each-requires c κs =
     let entry = c.before.before.before.before.before.before.before.before.before.before.before in
     let at = c.before.before.before.before.before.before.loop in
-    let long = placing-length _ _ _ entry.requires.known entry.requires.seen entry.requires.room at.i _ _ at.invariant.1 at.invariant.0 in
+    let long = placing_length _ _ _ entry.requires.known entry.requires.seen entry.requires.room at.i _ _ at.invariant.1 at.invariant.0 in
     inside _ _ entry.args.cards.now entry.requires.known entry.requires.seen entry.requires.room _ _ _
     (omega arith) (omega arith) (omega (arith, long, entry.requires.room))
 
@@ -90,7 +90,7 @@ place-each-requires-2 : tie.Need-place-each-requires-2 invariant-loop decreases-
 place-each-requires-2 c κs =
     let entry = c.before.before.before.before.before.before.before.before in
     let at = c.before.before.before.loop in
-    let long = placing-length _ _ _ entry.requires.known entry.requires.seen entry.requires.room at.i _ _ at.invariant.1 at.invariant.0 in
+    let long = placing_length _ _ _ entry.requires.known entry.requires.seen entry.requires.room at.i _ _ at.invariant.1 at.invariant.0 in
     inside _ _ entry.args.cards.now entry.requires.known entry.requires.seen entry.requires.room _ _ _
     (omega arith) (omega arith) (omega (arith, long, entry.requires.room))
 
@@ -99,7 +99,7 @@ same_length c =
     let entry = c.before.before.before.before.before.before.before.before.before.before.before in
     let at = c.before.before.before.before.before.before.loop in
     let whole = c.before.before.place-each2.ensures _ _ entry.requires.known entry.requires.seen entry.requires.room at.invariant.1 in
-    placing-length _ _ _ entry.requires.known entry.requires.seen entry.requires.room _ _ _ whole (omega arith)
+    placing_length _ _ _ entry.requires.known entry.requires.seen entry.requires.room _ _ _ whole (omega arith)
 
 returns : tie.Need-returns invariant-loop decreases-loop
 returns c =
@@ -108,8 +108,8 @@ returns c =
     let whole = c.before.before.place-each2.ensures _ _ entry.requires.known entry.requires.seen entry.requires.room at.invariant.1 in
     all_placed _ _ _ entry.requires.known entry.requires.seen entry.requires.room _ _ whole
 
-pub place-spec : {M : Type 1} → statement M
-place-spec =
+pub place_spec : {M : Type 1} → statement M
+place_spec =
     tie.close
     (tie.spec
     invariant-loop

@@ -5,7 +5,7 @@ use mathlib.Core.Path.{◌≡◌, refl, ◌∙◌}
 use native.Mathlib.Omega.{arith}
 use lib.ListN.{length, length-set}
 use Rattle.hub.specs.Words.{Places}
-use Rattle.hub.proofs.Placing.{placing-next}
+use Rattle.hub.proofs.Placing.{placing_next}
 use borrow.Author.Rules.{rules}
 use Rattle.hub.proofs.place_each.Statement.{statement}
 use Rattle.hub.proofs.place_each.Tie as tie
@@ -79,7 +79,7 @@ loop-again c =
       λ chosen before known seen room p.
           let so_far = at.invariant.4 chosen before known seen room p in
           let is = c.before.before.index.ensures in
-          rw c.turned.ensures (placing-next chosen _ before known seen room at.i at.words at.cards so_far inside camera is),
+          rw c.turned.ensures (placing_next chosen _ before known seen room at.i at.words at.cards so_far inside camera is),
     )
 
 same_length : tie.Need-same-length invariant-loop decreases-loop
@@ -92,8 +92,8 @@ returns c =
     let done : at.i ≡ entry.args.to = omega arith in
     rw done at at.invariant.4
 
-pub place-each-spec : {M : Type 1} → statement M
-place-each-spec =
+pub place_each_spec : {M : Type 1} → statement M
+place_each_spec =
     tie.close
     (tie.spec
     invariant-loop

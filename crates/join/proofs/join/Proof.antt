@@ -1,7 +1,7 @@
 -- `join::join` meets its contract.
 -- Assumes nothing.
 use mathlib.Core.Path.{sym, ◌∙◌}
-use Rattle.join.proofs.Outcome.{first-refused, second-refused}
+use Rattle.join.proofs.Outcome.{first_refused, second_refused}
 use Rattle.join.proofs.Showing.{contract}
 use borrow.Author.Rules.{rules}
 use Rattle.join.proofs.join.Statement.{statement}
@@ -36,7 +36,7 @@ join-read-requires c κs =
 returns : tie.Need-returns
 returns c =
     let told = c.before in
-    contract _ _ _ _ _ (first-refused _ _ _ _ (told.before.before.read.ensures.1.1.1.refusal _ told.a.given.1))
+    contract _ _ _ _ _ (first_refused _ _ _ _ (told.before.before.read.ensures.1.1.1.refusal _ told.a.given.1))
 
 returns-2 : tie.Need-returns-2
 returns-2 c =
@@ -45,7 +45,7 @@ returns-2 c =
     let first = read2.before.before.before in
     let read = first.before.before in
     contract _ _ _ _ _
-    (second-refused _ _ _ _ _ (sym read.read.ensures.0 ∙ first.a2.given.1) (read2.read2.ensures.1.1.1.refusal _ told.b.given.1))
+    (second_refused _ _ _ _ _ (sym read.read.ensures.0 ∙ first.a2.given.1) (read2.read2.ensures.1.1.1.refusal _ told.b.given.1))
 
 same_length : tie.Need-same-length
 same_length c = search rules
@@ -53,8 +53,8 @@ same_length c = search rules
 returns-3 : tie.Need-returns-3
 returns-3 c = contract _ _ _ _ _ c.before.before.join-read.ensures
 
-pub join-spec : {M : Type 1} → statement M
-join-spec =
+pub join_spec : {M : Type 1} → statement M
+join_spec =
     tie.close
     (tie.spec
     read-requires

@@ -2,8 +2,8 @@
 -- Assumes nothing.
 use mathlib.Core.Path.{sym, ◌∙◌}
 use native.Mathlib.Omega.{arith}
-use Rattle.ticket.proofs.Answers.{header-fits}
-use Rattle.join.proofs.Outcome.{read-refused, read-few, read-room, read-place, read-lines, read-joined}
+use Rattle.ticket.proofs.Answers.{header_fits}
+use Rattle.join.proofs.Outcome.{read_refused, read_few, read_room, read_place, read_lines, read_joined}
 use borrow.Author.Rules.{rules}
 use Rattle.join.proofs.join_read.Statement.{statement}
 use Rattle.join.proofs.join_read.Tie as tie
@@ -15,14 +15,14 @@ returns : tie.Need-returns
 returns c =
     let told = c.before in
     let start = told.before.before.before.before in
-    read-refused _ _ _ _ start.requires.0 start.requires.1 _ _ told.refusal.ensures c.if1.true
+    read_refused _ _ _ _ start.requires.0 start.requires.1 _ _ told.refusal.ensures c.if1.true
 
 add-frames : tie.Need-overflow-add-frames
 add-frames c =
     let told = c.before.before.before in
     let start = told.before.before.before.before in
     let none = sym c.before.before.if1.false ∙ told.refusal.ensures in
-    omega (arith, read-few _ _ _ _ start.requires.0 start.requires.1 start.args.out.now none)
+    omega (arith, read_few _ _ _ _ start.requires.0 start.requires.1 start.args.out.now none)
 
 put-header-requires : tie.Need-put-header-requires
 put-header-requires c κs =
@@ -30,19 +30,19 @@ put-header-requires c κs =
     let told = else1.before in
     let start = told.before.before.before.before in
     let none = sym else1.if1.false ∙ told.refusal.ensures in
-    omega (arith, read-room _ _ _ _ start.requires.0 start.requires.1 start.args.out.now none)
+    omega (arith, read_room _ _ _ _ start.requires.0 start.requires.1 start.args.out.now none)
 
 sub-put-merged : tie.Need-overflow-sub-put-merged
 sub-put-merged c =
     let else1 = c.before.before.before.before.before.before in
     let start = else1.before.before.before.before.before in
-    header-fits _ _ start.requires.0
+    header_fits _ _ start.requires.0
 
 part-put-merged-start : tie.Need-slice-bounds-put-merged-start
 part-put-merged-start c =
     let else1 = c.before.before.before.before.before.before in
     let start = else1.before.before.before.before.before in
-    header-fits _ _ start.requires.0
+    header_fits _ _ start.requires.0
 
 part-put-merged-end : tie.Need-slice-bounds-put-merged-end
 part-put-merged-end c = search rules
@@ -54,13 +54,13 @@ sub-put-merged-2 : tie.Need-overflow-sub-put-merged-2
 sub-put-merged-2 c =
     let else1 = c.before.before.before.before.before.before.before.before in
     let start = else1.before.before.before.before.before in
-    header-fits _ _ start.requires.1
+    header_fits _ _ start.requires.1
 
 part-put-merged-start-2 : tie.Need-slice-bounds-put-merged-start-2
 part-put-merged-start-2 c =
     let else1 = c.before.before.before.before.before.before.before.before in
     let start = else1.before.before.before.before.before in
-    header-fits _ _ start.requires.1
+    header_fits _ _ start.requires.1
 
 part-put-merged-end-2 : tie.Need-slice-bounds-put-merged-end-2
 part-put-merged-end-2 c = search rules
@@ -74,11 +74,11 @@ put-merged-requires c κs =
     let else1 = headed.before.before.before.before in
     let start = else1.before.before.before.before.before in
     let none = sym else1.if1.false ∙ else1.before.refusal.ensures in
-    let lines = read-lines _ _ _ _ start.requires.0 start.requires.1 start.args.out.now none in (
+    let lines = read_lines _ _ _ _ start.requires.0 start.requires.1 start.args.out.now none in (
       lines.0,
       lines.1,
-      omega (arith, read-few _ _ _ _ start.requires.0 start.requires.1 start.args.out.now none),
-      read-place _ _ _ _ start.requires.0 start.requires.1 start.args.out.now none _ _ headed.put-header.ensures,
+      omega (arith, read_few _ _ _ _ start.requires.0 start.requires.1 start.args.out.now none),
+      read_place _ _ _ _ start.requires.0 start.requires.1 start.args.out.now none _ _ headed.put_header.ensures,
     )
 
 cast-bytes : tie.Need-overflow-cast-bytes
@@ -100,10 +100,10 @@ returns-2 c =
     let else1 = headed.before.before.before.before in
     let start = else1.before.before.before.before.before in
     let none = sym else1.if1.false ∙ else1.before.refusal.ensures in
-    read-joined _ _ _ _ start.requires.0 start.requires.1 start.args.out.now none _ _ headed.put-header.ensures put.put-merged.ensures
+    read_joined _ _ _ _ start.requires.0 start.requires.1 start.args.out.now none _ _ headed.put_header.ensures put.put-merged.ensures
 
-pub join-read-spec : {M : Type 1} → statement M
-join-read-spec =
+pub join_read_spec : {M : Type 1} → statement M
+join_read_spec =
     tie.close
     (tie.spec
     refusal-requires

@@ -1,7 +1,7 @@
 -- `join::put_header` meets its contract.
 -- Assumes nothing.
 use lib.ListN.{length-set}
-use Rattle.join.proofs.HeaderText.{header-length, put-header}
+use Rattle.join.proofs.HeaderText.{header_length, put_header}
 use borrow.Author.Rules.{rules}
 use Rattle.join.proofs.put_header.Statement.{statement}
 use Rattle.join.proofs.put_header.Tie as tie
@@ -34,7 +34,7 @@ same_length c =
     let cards = pool.before.before.before.before.before in
     let mode = cards.before.before.before.before.before in
     let edition = mode.before.before.before.before.before in
-    let put = header-length _ _ _ _ _ _ _ edition.put2.ensures mode.put22.ensures cards.put23.ensures pool.put4.ensures in
+    let put = header_length _ _ _ _ _ _ _ edition.put2.ensures mode.put22.ensures cards.put23.ensures pool.put4.ensures in
     simp length-set (put frames.put42.ensures)
 
 returns : tie.Need-returns
@@ -44,10 +44,10 @@ returns c =
     let cards = pool.before.before.before.before.before in
     let mode = cards.before.before.before.before.before in
     let edition = mode.before.before.before.before.before in
-    put-header _ _ _ _ _ _ _ edition.put2.ensures mode.put22.ensures cards.put23.ensures pool.put4.ensures frames.put42.ensures
+    put_header _ _ _ _ _ _ _ edition.put2.ensures mode.put22.ensures cards.put23.ensures pool.put4.ensures frames.put42.ensures
 
-pub put-header-spec : {M : Type 1} → statement M
-put-header-spec =
+pub put_header_spec : {M : Type 1} → statement M
+put_header_spec =
     tie.close
     (tie.spec
     digit-texts-requires

@@ -1,7 +1,7 @@
 -- `join::refusal` meets its contract.
 -- Assumes nothing.
 use mathlib.Core.Path.{sym, ◌∙◌}
-use Rattle.join.proofs.Refusals.{not-joinable, too_many, no_room, no-refusal}
+use Rattle.join.proofs.Refusals.{not_joinable, too_many, no_room, no_refusal}
 use borrow.Author.Rules.{rules}
 use Rattle.join.proofs.refusal.Statement.{statement}
 use Rattle.join.proofs.refusal.Tie as tie
@@ -39,13 +39,13 @@ returns-3 : tie.Need-returns-3
 returns-3 c =
     let few = c.before in
     let test = few.before.before.before in
-    no-refusal _ _ _ (sym test.if1.true ∙ test.before.joinable.ensures) few.if2.false c.if3.false
+    no_refusal _ _ _ (sym test.if1.true ∙ test.before.joinable.ensures) few.if2.false c.if3.false
 
 returns-4 : tie.Need-returns-4
-returns-4 c = not-joinable _ _ _ (sym c.if1.false ∙ c.before.joinable.ensures)
+returns-4 c = not_joinable _ _ _ (sym c.if1.false ∙ c.before.joinable.ensures)
 
-pub refusal-spec : {M : Type 1} → statement M
-refusal-spec =
+pub refusal_spec : {M : Type 1} → statement M
+refusal_spec =
     tie.close
     (tie.spec
     joinable-requires

@@ -2,7 +2,7 @@
 -- Assumes nothing.
 use native.Mathlib.Omega.{arith}
 use lib.ListN.{length-set}
-use Rattle.merged_lines.proofs.OneLine.{put-length, first-digit, second-digit, card-small, whole-line}
+use Rattle.merged_lines.proofs.OneLine.{put_length, first_digit, second_digit, card_small, whole_line}
 use borrow.Author.Rules.{rules}
 use Rattle.merged_lines.proofs.put_line.Statement.{statement}
 use Rattle.merged_lines.proofs.put_line.Tie as tie
@@ -26,8 +26,8 @@ upper-two-requires : tie.Need-upper-two-requires
 upper-two-requires c κs =
     let put = c.before.before.before.before in
     let start = put.before.before.before.before in (
-      first-digit _ _ start.requires.0 _ _ _ _ start.requires.1 put.put-eight.ensures,
-      second-digit _ _ start.requires.0 _ _ _ _ start.requires.1 put.put-eight.ensures,
+      first_digit _ _ start.requires.0 _ _ _ _ start.requires.1 put.put-eight.ensures,
+      second_digit _ _ start.requires.0 _ _ _ _ start.requires.1 put.put-eight.ensures,
     )
 
 cast-out : tie.Need-overflow-cast-out
@@ -40,7 +40,7 @@ cast-out-2 : tie.Need-overflow-cast-out-2
 cast-out-2 c =
     let put = c.before.before.before.before.before in
     let start = put.before.before.before.before in
-    omega (arith, card-small _ _ start.requires.0 _ _ _ _ start.requires.1 put.put-eight.ensures _ c.upper-two.ensures)
+    omega (arith, card_small _ _ start.requires.0 _ _ _ _ start.requires.1 put.put-eight.ensures _ c.upper-two.ensures)
 
 add-out : tie.Need-overflow-add-out
 add-out c = search rules
@@ -49,7 +49,7 @@ slice-write-out-2 : tie.Need-slice-write-out-2
 slice-write-out-2 c =
     let put = c.before.before.before.before.before in
     let start = put.before.before.before.before in
-    simp length-set (omega (arith, put-length _ _ start.requires.0 _ _ _ _ start.requires.1 put.put-eight.ensures))
+    simp length-set (omega (arith, put_length _ _ start.requires.0 _ _ _ _ start.requires.1 put.put-eight.ensures))
 
 add-out-2 : tie.Need-overflow-add-out-2
 add-out-2 c = search rules
@@ -58,7 +58,7 @@ slice-write-out-3 : tie.Need-slice-write-out-3
 slice-write-out-3 c =
     let put = c.before.before.before.before.before in
     let start = put.before.before.before.before in
-    simp length-set (omega (arith, put-length _ _ start.requires.0 _ _ _ _ start.requires.1 put.put-eight.ensures))
+    simp length-set (omega (arith, put_length _ _ start.requires.0 _ _ _ _ start.requires.1 put.put-eight.ensures))
 
 same_length : tie.Need-same-length
 same_length c = search rules
@@ -67,10 +67,10 @@ returns : tie.Need-returns
 returns c =
     let put = c.before.before.before.before.before in
     let start = put.before.before.before.before in
-    whole-line _ _ start.requires.0 _ _ _ _ start.requires.1 put.put-eight.ensures _ c.upper-two.ensures
+    whole_line _ _ start.requires.0 _ _ _ _ start.requires.1 put.put-eight.ensures _ c.upper-two.ensures
 
-pub put-line-spec : {M : Type 1} → statement M
-put-line-spec =
+pub put_line_spec : {M : Type 1} → statement M
+put_line_spec =
     tie.close
     (tie.spec
     add-put-eight

@@ -2,9 +2,9 @@
 -- Assumes nothing.
 use Prim.Native.Nat.{◌+◌, ◌*◌, ◌-◌}
 use native.Mathlib.Omega.{arith}
-use Rattle.merged_lines.proofs.Offsets.{Turn, first-of-all, second-of-all, starts, within, same-long, stops}
-use Rattle.merged_lines.proofs.Offsets.{line_first, key-first, room-first, next-first, took-first}
-use Rattle.merged_lines.proofs.Offsets.{line_second, key-second, room-second, next-second, took-second}
+use Rattle.merged_lines.proofs.Offsets.{Turn, first_of_all, second_of_all, starts, within, same_long, stops}
+use Rattle.merged_lines.proofs.Offsets.{line_first, key_first, room_first, next_first, took_first}
+use Rattle.merged_lines.proofs.Offsets.{line_second, key_second, room_second, next_second, took_second}
 use borrow.Author.Rules.{rules}
 use Rattle.merged_lines.proofs.put_merged.Statement.{statement}
 use Rattle.merged_lines.proofs.put_merged.Tie as tie
@@ -30,12 +30,12 @@ add-end-2 c = search rules
 key-at-requires : tie.Need-key-at-requires invariant-loop decreases-loop
 key-at-requires c κs =
     let start = c.before.before.before in
-    (omega arith, first-of-all _ _ _ _ start.requires.0 start.requires.1 start.args.out.now start.args.at)
+    (omega arith, first_of_all _ _ _ _ start.requires.0 start.requires.1 start.args.out.now start.args.at)
 
 key-at-requires-2 : tie.Need-key-at-requires-2 invariant-loop decreases-loop
 key-at-requires-2 c κs =
     let start = c.before.before.before.before in
-    (omega arith, second-of-all _ _ _ _ start.requires.0 start.requires.1 start.args.out.now start.args.at)
+    (omega arith, second_of_all _ _ _ _ start.requires.0 start.requires.1 start.args.out.now start.args.at)
 
 loop-holds : tie.Need-loop-init invariant-loop decreases-loop
 loop-holds c =
@@ -48,29 +48,29 @@ put-line-requires c κs =
     let start = at-loop.before.before.before.before.before.before in
     let turn = at-loop.loop.invariant in
     let inside = within _ _ _ _ start.requires.0 start.requires.1 _ _ _ _ _ _ _ _ turn in
-    let long = same-long _ _ _ _ start.requires.0 start.requires.1 _ _ _ _ _ _ _ _ turn in
-    let room = room-first _ _ _ _ start.requires.0 start.requires.1 _ _ _ _ _ _ _ _ turn (omega arith) (omega arith) in (
+    let long = same_long _ _ _ _ start.requires.0 start.requires.1 _ _ _ _ _ _ _ _ turn in
+    let room = room_first _ _ _ _ start.requires.0 start.requires.1 _ _ _ _ _ _ _ _ turn (omega arith) (omega arith) in (
       line_first _ _ _ _ start.requires.0 start.requires.1 _ _ _ _ _ _ _ _ turn (omega arith) (omega arith),
-      key-first _ _ _ _ start.requires.0 start.requires.1 _ _ _ _ _ _ _ _ turn (omega arith) (omega arith),
+      key_first _ _ _ _ start.requires.0 start.requires.1 _ _ _ _ _ _ _ _ turn (omega arith) (omega arith),
       omega (arith, inside.0, inside.1, inside.2),
     )
 
 add-place : tie.Need-overflow-add-place invariant-loop decreases-loop
 add-place c = omega arith
 
-add-first : tie.Need-overflow-add-first invariant-loop decreases-loop
-add-first c =
+add_first : tie.Need-overflow-add-first invariant-loop decreases-loop
+add_first c =
     let at-loop = c.before.before.before.before.before.before in
     let start = at-loop.before.before.before.before.before.before in
     let turn = at-loop.loop.invariant in
-    omega (arith, room-first _ _ _ _ start.requires.0 start.requires.1 _ _ _ _ _ _ _ _ turn (omega arith) (omega arith))
+    omega (arith, room_first _ _ _ _ start.requires.0 start.requires.1 _ _ _ _ _ _ _ _ turn (omega arith) (omega arith))
 
 key-at-requires-3 : tie.Need-key-at-requires-3 invariant-loop decreases-loop
 key-at-requires-3 c κs =
     let at-loop = c.before.before.before.before.before.before in
     let start = at-loop.before.before.before.before.before.before in
     let turn = at-loop.loop.invariant in
-    (omega arith, next-first _ _ _ _ start.requires.0 start.requires.1 _ _ _ _ _ _ _ _ turn (omega arith) (omega arith))
+    (omega arith, next_first _ _ _ _ start.requires.0 start.requires.1 _ _ _ _ _ _ _ _ turn (omega arith) (omega arith))
 
 loop-less : tie.Need-loop-smaller invariant-loop decreases-loop
 loop-less c = omega arith
@@ -81,7 +81,7 @@ loop-again c =
     let at-loop = put.before.before.before.before in
     let start = at-loop.before.before.before.before.before.before in
     let turn = at-loop.loop.invariant in
-    took-first _ _ _ _ start.requires.0 start.requires.1 _ _ _ _ _ _ _ _ turn (omega arith) (omega arith) _ _ put.put-line.ensures c.key-at3.ensures
+    took_first _ _ _ _ start.requires.0 start.requires.1 _ _ _ _ _ _ _ _ turn (omega arith) (omega arith) _ _ put.put_line.ensures c.key-at3.ensures
 
 put-line-requires-2 : tie.Need-put-line-requires-2 invariant-loop decreases-loop
 put-line-requires-2 c κs =
@@ -89,10 +89,10 @@ put-line-requires-2 c κs =
     let start = at-loop.before.before.before.before.before.before in
     let turn = at-loop.loop.invariant in
     let inside = within _ _ _ _ start.requires.0 start.requires.1 _ _ _ _ _ _ _ _ turn in
-    let long = same-long _ _ _ _ start.requires.0 start.requires.1 _ _ _ _ _ _ _ _ turn in
-    let room = room-second _ _ _ _ start.requires.0 start.requires.1 _ _ _ _ _ _ _ _ turn (omega arith) (omega arith) in (
+    let long = same_long _ _ _ _ start.requires.0 start.requires.1 _ _ _ _ _ _ _ _ turn in
+    let room = room_second _ _ _ _ start.requires.0 start.requires.1 _ _ _ _ _ _ _ _ turn (omega arith) (omega arith) in (
       line_second _ _ _ _ start.requires.0 start.requires.1 _ _ _ _ _ _ _ _ turn (omega arith) (omega arith),
-      key-second _ _ _ _ start.requires.0 start.requires.1 _ _ _ _ _ _ _ _ turn (omega arith) (omega arith),
+      key_second _ _ _ _ start.requires.0 start.requires.1 _ _ _ _ _ _ _ _ turn (omega arith) (omega arith),
       omega (arith, inside.0, inside.1, inside.2),
     )
 
@@ -104,14 +104,14 @@ add-second c =
     let at-loop = c.before.before.before.before.before.before in
     let start = at-loop.before.before.before.before.before.before in
     let turn = at-loop.loop.invariant in
-    omega (arith, room-second _ _ _ _ start.requires.0 start.requires.1 _ _ _ _ _ _ _ _ turn (omega arith) (omega arith))
+    omega (arith, room_second _ _ _ _ start.requires.0 start.requires.1 _ _ _ _ _ _ _ _ turn (omega arith) (omega arith))
 
 key-at-requires-4 : tie.Need-key-at-requires-4 invariant-loop decreases-loop
 key-at-requires-4 c κs =
     let at-loop = c.before.before.before.before.before.before in
     let start = at-loop.before.before.before.before.before.before in
     let turn = at-loop.loop.invariant in
-    (omega arith, next-second _ _ _ _ start.requires.0 start.requires.1 _ _ _ _ _ _ _ _ turn (omega arith) (omega arith))
+    (omega arith, next_second _ _ _ _ start.requires.0 start.requires.1 _ _ _ _ _ _ _ _ turn (omega arith) (omega arith))
 
 loop-less-2 : tie.Need-loop-smaller-2 invariant-loop decreases-loop
 loop-less-2 c = omega arith
@@ -122,13 +122,13 @@ loop-again-2 c =
     let at-loop = put.before.before.before.before in
     let start = at-loop.before.before.before.before.before.before in
     let turn = at-loop.loop.invariant in
-    took-second _ _ _ _ start.requires.0 start.requires.1 _ _ _ _ _ _ _ _ turn (omega arith) (omega arith) _ _ put.put-line2.ensures c.key-at4.ensures
+    took_second _ _ _ _ start.requires.0 start.requires.1 _ _ _ _ _ _ _ _ turn (omega arith) (omega arith) _ _ put.put-line2.ensures c.key-at4.ensures
 
 same_length : tie.Need-same-length invariant-loop decreases-loop
 same_length c =
     let start = c.before.before.before.before.before.before.before in
     let turn = c.before.loop.invariant in
-    same-long _ _ _ _ start.requires.0 start.requires.1 _ _ _ _ _ _ _ _ turn
+    same_long _ _ _ _ start.requires.0 start.requires.1 _ _ _ _ _ _ _ _ turn
 
 returns : tie.Need-returns invariant-loop decreases-loop
 returns c =
@@ -136,8 +136,8 @@ returns c =
     let turn = c.before.loop.invariant in
     stops _ _ _ _ start.requires.0 start.requires.1 _ _ _ _ _ _ _ _ turn (omega arith)
 
-pub put-merged-spec : {M : Type 1} → statement M
-put-merged-spec =
+pub put_merged_spec : {M : Type 1} → statement M
+put_merged_spec =
     tie.close
     (tie.spec
     invariant-loop
@@ -151,7 +151,7 @@ put-merged-spec =
     loop-holds
     put-line-requires
     add-place
-    add-first
+    add_first
     key-at-requires-3
     loop-less
     loop-again

@@ -10,5 +10,5 @@ returns c = rw (le-leb _ _ c.if1.true)
 returns-2 : tie.Need-returns-2
 returns-2 c = rw (lt-leb _ _ c.if1.false)
 
-pub as-of-spec : {M : Type 1} → statement M
-as-of-spec = tie.close (tie.spec returns returns-2)
+pub as_of_spec : {M : Type 1} → statement M
+as_of_spec = tie.close (tie.spec returns returns-2)

@@ -20,5 +20,5 @@ returns c =
     let passed = shown.before.before.before.before in
     kept passed.before.before.before.before.requires passed.pass.ensures shown.keep.ensures
 
-pub keep-plan-spec : {M : Type 1} → statement M
-keep-plan-spec = tie.close (tie.spec pass-requires keep-requires same_length returns)
+pub keep_plan_spec : {M : Type 1} → statement M
+keep_plan_spec = tie.close (tie.spec pass-requires keep-requires same_length returns)

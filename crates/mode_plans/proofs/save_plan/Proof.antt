@@ -16,5 +16,5 @@ returns c =
     let passed = c.before.before.before in
     saved passed.before.before.before.before.requires passed.pass.ensures
 
-pub save-plan-spec : {M : Type 1} → statement M
-save-plan-spec = tie.close (tie.spec pass-requires same_length returns)
+pub save_plan_spec : {M : Type 1} → statement M
+save_plan_spec = tie.close (tie.spec pass-requires same_length returns)

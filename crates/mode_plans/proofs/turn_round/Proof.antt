@@ -3,7 +3,7 @@
 use Prim.Native.Nat.{◌≤◌, ◌-◌, ◌+◌}
 use mathlib.Core.Path.{◌≡◌, refl}
 use native.Mathlib.Omega.{arith}
-use Rattle.counting.proofs.Firsts.{Replaced, replaced-none, replaced-length, next-as-before, replaced-next}
+use Rattle.counting.proofs.Firsts.{Replaced, replaced_none, replaced_length, next_as_before, replaced_next}
 use borrow.Author.Rules.{rules}
 use Rattle.mode_plans.proofs.turn_round.Statement.{statement}
 use Rattle.mode_plans.proofs.turn_round.Tie as tie
@@ -15,18 +15,18 @@ abbrev decreases-loop : tie.decreases-loop
 decreases-loop out₀ n t i₀ out i = n - i
 
 loop-holds : tie.Need-loop-init invariant-loop decreases-loop
-loop-holds c = (omega arith, replaced-none _ _)
+loop-holds c = (omega arith, replaced_none _ _)
 
 mul-out : tie.Need-overflow-mul-out invariant-loop decreases-loop
 mul-out c = omega (arith, c.before.before.well-formed)
 
 slice-read-out : tie.Need-slice-read-out invariant-loop decreases-loop
-slice-read-out c = omega (arith, replaced-length c.before.before.loop.invariant.1, c.before.before.before.requires.0)
+slice-read-out c = omega (arith, replaced_length c.before.before.loop.invariant.1, c.before.before.before.requires.0)
 
 sub_out : tie.Need-overflow-sub-out invariant-loop decreases-loop
 sub_out c =
     let turn = c.before.before.before in
-    omega (arith, next-as-before turn.loop.invariant.1, turn.before.requires.2 turn.loop.i (omega arith))
+    omega (arith, next_as_before turn.loop.invariant.1, turn.before.requires.2 turn.loop.i (omega arith))
 
 add-out : tie.Need-overflow-add-out invariant-loop decreases-loop
 add-out c = search rules
@@ -37,7 +37,7 @@ mul-out-2 c = omega (arith, c.before.before.before.before.well-formed)
 slice-write-out : tie.Need-slice-write-out invariant-loop decreases-loop
 slice-write-out c =
     let turn = c.before.before.before in
-    omega (arith, replaced-length turn.loop.invariant.1, turn.before.requires.0)
+    omega (arith, replaced_length turn.loop.invariant.1, turn.before.requires.0)
 
 add-i : tie.Need-overflow-add-i invariant-loop decreases-loop
 add-i c = search rules
@@ -48,16 +48,16 @@ loop-less c = search rules
 loop-again : tie.Need-loop-preserved invariant-loop decreases-loop
 loop-again c =
     let turn = c.before.before.before in
-    (omega arith, replaced-next turn.loop.invariant.1 _ (omega (arith, turn.before.requires.0)) refl)
+    (omega arith, replaced_next turn.loop.invariant.1 _ (omega (arith, turn.before.requires.0)) refl)
 
 same_length : tie.Need-same-length invariant-loop decreases-loop
-same_length c = replaced-length c.before.loop.invariant.1
+same_length c = replaced_length c.before.loop.invariant.1
 
 returns : tie.Need-returns invariant-loop decreases-loop
 returns c = let e : c.before.loop.i ≡ c.before.before.args.n = omega arith in rw (← e) c.before.loop.invariant.1.so_far
 
-pub turn-round-spec : {M : Type 1} → statement M
-turn-round-spec =
+pub turn_round_spec : {M : Type 1} → statement M
+turn_round_spec =
     tie.close
     (tie.spec
     invariant-loop

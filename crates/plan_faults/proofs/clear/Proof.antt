@@ -4,7 +4,7 @@ use borrow.Author.Rules.{rules}
 use Prim.Native.Nat.{◌+◌}
 use lib.ListN.{length}
 use native.Mathlib.Omega.{arith}
-use Rattle.plan_faults.proofs.Deciding.{by-pools, up_to}
+use Rattle.plan_faults.proofs.Deciding.{by_pools, up_to}
 use Rattle.plan_faults.proofs.clear.Statement.{statement}
 use Rattle.plan_faults.proofs.clear.Tie as tie
 
@@ -16,7 +16,7 @@ returns c =
     let args = c.before.before.before.before.args in
     let pre = c.before.before.before.before.requires in
     let pool-first = c.if1.true in
-    by-pools args.save args.m args.cards.now args.plan.now pre.0.same_length pre.2 c.before.rising-frames.ensures
+    by_pools args.save args.m args.cards.now args.plan.now pre.0.same_length pre.2 c.before.rising-frames.ensures
     (λ h l. absurd (omega (arith, h, pool-first)))
 
 add-clear-among : tie.Need-overflow-add-clear-among
@@ -38,7 +38,7 @@ returns-3 c =
     let args = c.before.before.before.before.before.before.args in
     let pre = c.before.before.before.before.before.before.requires in
     let all-clear = rw c.if3.true at c.before.before.before.rising-frames.ensures in
-    by-pools args.save args.m args.cards.now args.plan.now pre.0.same_length pre.2 all-clear (λ h l. absurd (omega (arith, l)))
+    by_pools args.save args.m args.cards.now args.plan.now pre.0.same_length pre.2 all-clear (λ h l. absurd (omega (arith, l)))
 
 clear-among-requires-2 : tie.Need-clear-among-requires-2
 clear-among-requires-2 c κs = search rules

@@ -18,5 +18,5 @@ clear-requires-2 c κs = search rules
 returns-2 : tie.Need-returns-2
 returns-2 c = search rules
 
-pub clear-among-spec : {M : Type 1} → statement M
-clear-among-spec = tie.close (tie.spec clear-requires returns clear-requires-2 returns-2)
+pub clear_among_spec : {M : Type 1} → statement M
+clear_among_spec = tie.close (tie.spec clear-requires returns clear-requires-2 returns-2)

@@ -15,5 +15,5 @@ rising-requires c κs = search rules
 returns : tie.Need-returns
 returns c = (stopped (clear_first _ _) c.before.rising.ensures).clear
 
-pub rising-frames-spec : {M : Type 1} → statement M
-rising-frames-spec = tie.close (tie.spec slice-aggregate-rising rising-requires returns)
+pub rising_frames_spec : {M : Type 1} → statement M
+rising_frames_spec = tie.close (tie.spec slice-aggregate-rising rising-requires returns)

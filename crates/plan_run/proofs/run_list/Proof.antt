@@ -12,7 +12,7 @@ cast-n c = search rules
 returns : tie.Need-returns
 returns c =
     let s = c.before.before.before.before in
-    runs.wrong-length s.args.h s.args.memory.now s.args.plan.now s.requires (λ e. omega (arith, c.if1.true))
+    runs.wrong_length s.args.h s.args.memory.now s.args.plan.now s.requires (λ e. omega (arith, c.if1.true))
 
 at-start-requires : tie.Need-at-start-requires
 at-start-requires c κs = search rules
@@ -31,7 +31,7 @@ answer-requires c κs =
     let last = made.before.before in
     let begun = last.before in
     let start = begun.before.before.before.before.before in
-    runs.plan-asked start.args.h start.args.memory.now start.args.plan.now start.requires
+    runs.plan_asked start.args.h start.args.memory.now start.args.plan.now start.requires
     (omega (arith, begun.before.if1.false)) _ begun.at-start.ensures _
     (omega (arith, last.cycles-in.ensures)) (omega (arith, last.cycles-in.type-inv)) _ _ made.all-cycles.ensures
 
@@ -44,12 +44,12 @@ returns-2 c =
     let last = made.before.before in
     let begun = last.before in
     let start = begun.before.before.before.before.before in
-    runs.plan-ran start.args.h start.args.memory.now start.args.plan.now start.requires
+    runs.plan_ran start.args.h start.args.memory.now start.args.plan.now start.requires
     (omega (arith, begun.before.if1.false)) _ begun.at-start.ensures _
     (omega (arith, last.cycles-in.ensures)) (omega (arith, last.cycles-in.type-inv)) _ _ made.all-cycles.ensures _ c.answer.ensures
 
-pub run-list-spec : {M : Type 1} → statement M
-run-list-spec =
+pub run_list_spec : {M : Type 1} → statement M
+run_list_spec =
     tie.close
     (tie.spec
     cast-n

@@ -1,6 +1,6 @@
 -- `plan_run::run_plan` meets its contract.
 -- Assumes nothing.
-use Rattle.plan_run.proofs.Runs.{ticket-refused, contract}
+use Rattle.plan_run.proofs.Runs.{ticket_refused, contract}
 use borrow.Author.Rules.{rules}
 use Rattle.plan_run.proofs.run_plan.Statement.{statement}
 use Rattle.plan_run.proofs.run_plan.Tie as tie
@@ -25,7 +25,7 @@ run-list-requires c κs =
 returns : tie.Need-returns
 returns c =
     let read = c.before.before.before.read.ensures.1.1.1 in
-    contract _ _ _ (rw (read.refusal _ c.before.answer.given.1) (ticket-refused _ _))
+    contract _ _ _ (rw (read.refusal _ c.before.answer.given.1) (ticket_refused _ _))
 
 returns-2 : tie.Need-returns-2
 returns-2 c =
@@ -33,8 +33,8 @@ returns-2 c =
     let accepted = c.before.before.before.before.answer2.given.1 in
     contract _ _ _ (rw (read.list _ accepted) c.before.run-list.ensures)
 
-pub run-plan-spec : {M : Type 1} → statement M
-run-plan-spec =
+pub run_plan_spec : {M : Type 1} → statement M
+run_plan_spec =
     tie.close
     (tie.spec
     read-requires

@@ -1,6 +1,6 @@
 -- `planner::plan` meets its contract.
 -- Assumes nothing.
-use Rattle.planner.proofs.Answers.{ticket-refused}
+use Rattle.planner.proofs.Answers.{ticket_refused}
 use Rattle.planner.proofs.Demand.{contract}
 use borrow.Author.Rules.{rules}
 use Rattle.planner.proofs.plan.Statement.{statement}
@@ -26,7 +26,7 @@ plan-list-requires c κs =
 returns : tie.Need-returns
 returns c =
     let read = c.before.before.before.read.ensures.1.1.1 in
-    contract _ _ _ _ (rw (read.refusal _ c.before.answer.given.1) (ticket-refused _ _))
+    contract _ _ _ _ (rw (read.refusal _ c.before.answer.given.1) (ticket_refused _ _))
 
 same_length : tie.Need-same-length
 same_length c = search rules
@@ -38,8 +38,8 @@ returns-2 c =
     let accepted = listed.before.before.before.before.answer2.given.1 in
     contract _ _ _ _ (rw (read.list _ accepted) listed.plan-list.ensures)
 
-pub plan-spec : {M : Type 1} → statement M
-plan-spec =
+pub plan_spec : {M : Type 1} → statement M
+plan_spec =
     tie.close
     (tie.spec
     read-requires

@@ -28,6 +28,6 @@ returns-2 c =
     let b = c.before.before.before.before.before in
     planned _ _ _ b.before.before.before.before.requires b.if1.false _ _ c.before.before.fill.ensures
 
-pub plan-list-spec : {M : Type 1} → statement M
-plan-list-spec =
+pub plan_list_spec : {M : Type 1} → statement M
+plan_list_spec =
     tie.close (tie.spec cast-n returns slice-aggregate-fill fill-requires same_length returns-2)

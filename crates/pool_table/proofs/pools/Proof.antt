@@ -1,8 +1,8 @@
 -- `pool_table::pools` meets its contract.
 -- Assumes nothing.
 use borrow.Author.Rules.{rules}
-use Rattle.pool_counts.proofs.Whole.{of-save, of-read}
-use Rattle.pool_table.proofs.Adding.{zeroed, within-limit}
+use Rattle.pool_counts.proofs.Whole.{of_save, of_read}
+use Rattle.pool_table.proofs.Adding.{zeroed, within_limit}
 use Rattle.pool_table.proofs.pools.Statement.{statement}
 use Rattle.pool_table.proofs.pools.Tie as tie
 
@@ -12,7 +12,7 @@ slice-aggregate-roomy c = search rules
 roomy-requires : tie.Need-roomy-requires
 roomy-requires c κs =
     let pre = c.before.before.before.requires in
-    (zeroed, within-limit _ _ pre.0, pre.1)
+    (zeroed, within_limit _ _ pre.0, pre.1)
 
 returns : tie.Need-returns
 returns c =
@@ -20,7 +20,7 @@ returns c =
     let save = c.before.before.before.if1.true in
     let roomy-is = c.before.roomy.ensures in
     let plan = c.before.before.before.before.before.args.plan.now in
-    of-save args.save args.m plan save roomy-is
+    of_save args.save args.m plan save roomy-is
 
 slice-aggregate-fill : tie.Need-slice-aggregate-fill
 slice-aggregate-fill c = search rules
@@ -39,10 +39,10 @@ returns-2 c =
     let args = c.before.before.before.before.before.before.before.args in
     let read = c.before.before.before.before.before.if1.false in
     let plan = c.before.before.before.before.before.before.before.args.plan.now in
-    of-read args.save args.m plan read c.roomy2.ensures
+    of_read args.save args.m plan read c.roomy2.ensures
 
-pub pools-spec : {M : Type 1} → statement M
-pools-spec =
+pub pools_spec : {M : Type 1} → statement M
+pools_spec =
     tie.close
     (tie.spec
     slice-aggregate-roomy

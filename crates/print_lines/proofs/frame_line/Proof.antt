@@ -1,7 +1,7 @@
 -- `print_lines::frame_line` meets its contract.
 -- Assumes nothing.
 use lib.ListN.{length-set}
-use Rattle.print_lines.proofs.Puts.{put-line, line-length}
+use Rattle.print_lines.proofs.Puts.{put_line, line_length}
 use borrow.Author.Rules.{rules}
 use Rattle.print_lines.proofs.frame_line.Statement.{statement}
 use Rattle.print_lines.proofs.frame_line.Tie as tie
@@ -31,15 +31,15 @@ same_length : tie.Need-same-length
 same_length c =
     let carded = c.before.before.before.before.before.before in
     let placed = carded.before.before.before.before in
-    simp length-set (line-length _ _ _ _ _ _ _ _ placed.put-position.ensures carded.put2.ensures c.before.before.put4.ensures)
+    simp length-set (line_length _ _ _ _ _ _ _ _ placed.put_position.ensures carded.put2.ensures c.before.before.put4.ensures)
 
 returns : tie.Need-returns
 returns c =
     let carded = c.before.before.before.before.before.before in
     let placed = carded.before.before.before.before in
-    put-line _ _ _ _ _ _ _ _ placed.put-position.ensures carded.put2.ensures c.before.before.put4.ensures
+    put_line _ _ _ _ _ _ _ _ placed.put_position.ensures carded.put2.ensures c.before.before.put4.ensures
 
-pub frame-line-spec : {M : Type 1} → statement M
-frame-line-spec =
+pub frame_line_spec : {M : Type 1} → statement M
+frame_line_spec =
     tie.close
     (tie.spec put-position-requires add-put2 put2-requires add-put4 put4-requires add-out slice-write-out same_length returns)

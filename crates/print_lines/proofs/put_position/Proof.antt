@@ -2,7 +2,7 @@
 -- Assumes nothing.
 use native.Mathlib.Omega.{arith}
 use lib.ListN.{length-set}
-use Rattle.print_lines.proofs.Puts.{put-position, position-length}
+use Rattle.print_lines.proofs.Puts.{put_position, position_length}
 use borrow.Author.Rules.{rules}
 use Rattle.print_lines.proofs.put_position.Statement.{statement}
 use Rattle.print_lines.proofs.put_position.Tie as tie
@@ -37,15 +37,15 @@ same_length : tie.Need-same-length
 same_length c =
     let text = c.before.before.before.before.before in
     let given = text.before.before.before.args in
-    position-length given.out.now _ given.at given.position.0 _ text.digit-text.ensures c.before.before.put2.ensures
+    position_length given.out.now _ given.at given.position.0 _ text.digit-text.ensures c.before.before.put2.ensures
 
 returns : tie.Need-returns
 returns c =
     let text = c.before.before.before.before.before in
-    put-position _ _ _ _ _ text.digit-text.ensures c.before.before.put2.ensures (omega arith)
+    put_position _ _ _ _ _ text.digit-text.ensures c.before.before.put2.ensures (omega arith)
 
-pub put-position-spec : {M : Type 1} → statement M
-put-position-spec =
+pub put_position_spec : {M : Type 1} → statement M
+put_position_spec =
     tie.close
     (tie.spec
     slice-write-out

@@ -8,5 +8,5 @@ use Rattle.printing.proofs.input_buffer.Tie as tie
 returns : tie.Need-returns
 returns c = (rw length-replicate, refl)
 
-pub input-buffer-spec : {M : Type 1} → statement M
-input-buffer-spec = tie.close (tie.spec returns)
+pub input_buffer_spec : {M : Type 1} → statement M
+input_buffer_spec = tie.close (tie.spec returns)

@@ -46,8 +46,8 @@ returns-2 c =
     let accepted = listed.before.before.before.before.answer2.given.1 in
     contract _ _ _ _ (rw (read.list _ accepted) listed.print-list.ensures)
 
-pub print-spec : {M : Type 1} → statement M
-print-spec =
+pub print_spec : {M : Type 1} → statement M
+print_spec =
     tie.close
     (tie.spec
     read-requires

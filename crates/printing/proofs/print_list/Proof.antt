@@ -4,16 +4,16 @@ use Prim.Native.Nat.{ℕ}
 use mathlib.Core.Path.{◌≡◌}
 use native.Mathlib.Omega.{arith}
 use lib.ListN.{length, replicate, length-replicate}
-use Rattle.header.specs.Limits.{maxFrames}
+use Rattle.header.specs.Limits.{max_frames}
 use Rattle.mode_plans.proofs.Lists.{asked}
-use Rattle.printing.proofs.Listed.{front_length, text-is}
+use Rattle.printing.proofs.Listed.{front_length, text_is}
 use borrow.Author.Rules.{rules}
 use Rattle.printing.proofs.print_list.Statement.{statement}
 use Rattle.printing.proofs.print_list.Tie as tie
 
 -- the buffer that the plan is put into has room
-room : length {A = ℕ} (replicate maxFrames 0) ≡ maxFrames
-room = length-replicate {A = ℕ} maxFrames 0
+room : length {A = ℕ} (replicate max_frames 0) ≡ max_frames
+room = length-replicate {A = ℕ} max_frames 0
 
 cast-n : tie.Need-overflow-cast-n
 cast-n c = search rules
@@ -54,10 +54,10 @@ returns : tie.Need-returns
 returns c =
     let filled = c.before.before.before.before.before.before.before in
     let fits = filled.before.before.before.before.before.before.requires in
-    rw (← text-is _ _ fits _ _ _ filled.fill.ensures) c.before.before.plan4.ensures
+    rw (← text_is _ _ fits _ _ _ filled.fill.ensures) c.before.before.plan4.ensures
 
-pub print-list-spec : {M : Type 1} → statement M
-print-list-spec =
+pub print_list_spec : {M : Type 1} → statement M
+print_list_spec =
     tie.close
     (tie.spec
     cast-n

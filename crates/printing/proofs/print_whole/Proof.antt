@@ -1,7 +1,7 @@
 -- `printing::print_whole` meets its contract.
 -- Assumes nothing.
 use mathlib.Core.Path.{◌∙◌}
-use Rattle.printing.proofs.Short.{whole-text}
+use Rattle.printing.proofs.Short.{whole_text}
 use native.Mathlib.Omega.{arith}
 use borrow.Author.Rules.{rules}
 use Rattle.printing.proofs.print_whole.Statement.{statement}
@@ -12,9 +12,9 @@ print-requires c κs = search rules
 
 returns : tie.Need-returns
 returns c =
-    let w = whole-text c.before.before.before.args.ticket.now c.before.before.before.args.out.now (omega arith) in
+    let w = whole_text c.before.before.before.args.ticket.now c.before.before.before.args.out.now (omega arith) in
     let p = c.print.ensures in
     (p.0 ∙ w.0, (p.1.0 ∙ w.1, p.1.1))
 
-pub print-whole-spec : {M : Type 1} → statement M
-print-whole-spec = tie.close (tie.spec print-requires returns)
+pub print_whole_spec : {M : Type 1} → statement M
+print_whole_spec = tie.close (tie.spec print-requires returns)

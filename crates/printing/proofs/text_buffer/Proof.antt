@@ -8,5 +8,5 @@ use Rattle.printing.proofs.text_buffer.Tie as tie
 returns : tie.Need-returns
 returns c = (rw length-replicate, refl)
 
-pub text-buffer-spec : {M : Type 1} → statement M
-text-buffer-spec = tie.close (tie.spec returns)
+pub text_buffer_spec : {M : Type 1} → statement M
+text_buffer_spec = tie.close (tie.spec returns)

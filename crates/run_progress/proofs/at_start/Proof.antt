@@ -10,5 +10,5 @@ empty-requires c κs = search rules
 returns : tie.Need-returns
 returns c = rw c.empty.ensures
 
-pub at-start-spec : {M : Type 1} → statement M
-at-start-spec = tie.close (tie.spec empty-requires returns)
+pub at_start_spec : {M : Type 1} → statement M
+at_start_spec = tie.close (tie.spec empty-requires returns)

@@ -1,7 +1,7 @@
 -- `run_progress::track` meets its contract.
 -- Assumes nothing.
 use mathlib.Core.Path.{refl}
-use Rattle.run_progress.proofs.Tracked.{noted-tracked}
+use Rattle.run_progress.proofs.Tracked.{noted_tracked}
 use borrow.Author.Rules.{rules}
 use Rattle.run_progress.proofs.track.Statement.{statement}
 use Rattle.run_progress.proofs.track.Tie as tie
@@ -28,10 +28,10 @@ returns : tie.Need-returns
 returns c =
     let drive = c.before.before.before.before.before.before.before.before.before.before.drive in
     let end_is = c.before.before.before.before.before.is-end.ensures in
-    noted-tracked drive.ensures.1.1 refl c.before.before.needed-after.ensures end_is c.before.held-at-end.ensures c.larger.ensures
+    noted_tracked drive.ensures.1.1 refl c.before.before.needed-after.ensures end_is c.before.held-at-end.ensures c.larger.ensures
 
-pub track-spec : {M : Type 1} → statement M
-track-spec =
+pub track_spec : {M : Type 1} → statement M
+track_spec =
     tie.close
     (tie.spec
     drive-requires

@@ -7,7 +7,7 @@ use native.Mathlib.Omega.{arith}
 use lib.ListN.{take}
 use lib.Seq.{take_all}
 use Rattle.counting.specs.Count.{largest}
-use Rattle.counting.proofs.Lists.{largest-take}
+use Rattle.counting.proofs.Lists.{largest_take}
 use Rattle.schedule.proofs.cycles_in.Statement.{statement}
 use Rattle.schedule.proofs.cycles_in.Tie as tie
 
@@ -36,7 +36,7 @@ loop-again : tie.Need-loop-preserved invariant-loop decreases-loop
 loop-again c =
     let l = c.before.before.before.loop in
     let plan = c.before.before.before.before.args.plan.now in
-    (omega arith, omega (arith, l.invariant.1, largest-take plan l.i c.before.before.loop-test.true))
+    (omega arith, omega (arith, l.invariant.1, largest_take plan l.i c.before.before.loop-test.true))
 
 loop-less-2 : tie.Need-loop-smaller-2 invariant-loop decreases-loop
 loop-less-2 c = search rules
@@ -45,13 +45,13 @@ loop-again-2 : tie.Need-loop-preserved-2 invariant-loop decreases-loop
 loop-again-2 c =
     let l = c.before.before.before.loop in
     let plan = c.before.before.before.before.args.plan.now in
-    (omega arith, omega (arith, l.invariant.1, largest-take plan l.i c.before.before.loop-test.true))
+    (omega arith, omega (arith, l.invariant.1, largest_take plan l.i c.before.before.loop-test.true))
 
 returns : tie.Need-returns invariant-loop decreases-loop
 returns c = rw (take_all c.before.loop.i c.before.before.args.plan.now c.loop-test.false) at c.before.loop.invariant.1
 
-pub cycles-in-spec : {M : Type 1} → statement M
-cycles-in-spec =
+pub cycles_in_spec : {M : Type 1} → statement M
+cycles_in_spec =
     tie.close
     (tie.spec
     invariant-loop

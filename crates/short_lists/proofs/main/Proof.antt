@@ -43,9 +43,9 @@ add-t14 c = search rules
 numbered-requires : tie.Need-numbered-requires invariant-loop3 decreases-loop3 invariant-loop2 decreases-loop2 invariant-loop decreases-loop
 numbered-requires c κs = search rules
 
-one-ticket-requires :
+one_ticket_requires :
     tie.Need-one-ticket-requires invariant-loop3 decreases-loop3 invariant-loop2 decreases-loop2 invariant-loop decreases-loop
-one-ticket-requires c κs = search rules
+one_ticket_requires c κs = search rules
 
 add_turn : tie.Need-overflow-add-turn invariant-loop3 decreases-loop3 invariant-loop2 decreases-loop2 invariant-loop decreases-loop
 add_turn c = search rules
@@ -74,9 +74,9 @@ loop-less c = search rules
 loop-again : tie.Need-loop-preserved invariant-loop3 decreases-loop3 invariant-loop2 decreases-loop2 invariant-loop decreases-loop
 loop-again c = search rules
 
-compare-all-requires :
+compare_all_requires :
     tie.Need-compare-all-requires invariant-loop3 decreases-loop3 invariant-loop2 decreases-loop2 invariant-loop decreases-loop
-compare-all-requires c κs = search rules
+compare_all_requires c κs = search rules
 
 summary-requires : tie.Need-summary-requires invariant-loop3 decreases-loop3 invariant-loop2 decreases-loop2 invariant-loop decreases-loop
 summary-requires c κs = search rules
@@ -101,7 +101,7 @@ main_spec =
     loop3-holds
     add-t14
     numbered-requires
-    one-ticket-requires
+    one_ticket_requires
     add_turn
     loop3-less
     loop3-again
@@ -111,6 +111,6 @@ main_spec =
     add-n
     loop-less
     loop-again
-    compare-all-requires
+    compare_all_requires
     summary-requires
     returns)

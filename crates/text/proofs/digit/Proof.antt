@@ -13,5 +13,5 @@ element-copy-out-result c = search rules
 returns : tie.Need-returns
 returns c = (refl, λ e. value_of _ e c.before.args.b (omega arith))
 
-pub digit-spec : {M : Type 1} → statement M
-digit-spec = tie.close (tie.spec element-copy-out-result returns)
+pub digit_spec : {M : Type 1} → statement M
+digit_spec = tie.close (tie.spec element-copy-out-result returns)

@@ -1,7 +1,7 @@
 -- `text::digit_values` meets its contract.
 -- Assumes nothing.
 use mathlib.Core.Path.{refl}
-use Rattle.text.specs.Text.{digitValues, digit}
+use Rattle.text.specs.Text.{digit_values, digit}
 use borrow.Author.Rules.{rules}
 use Rattle.text.proofs.digit_values.Statement.{statement}
 use Rattle.text.proofs.digit_values.Tie as tie
@@ -73,11 +73,11 @@ array-write-value-22 : tie.Need-array-write-value-22
 array-write-value-22 c = search rules
 
 returns : tie.Need-returns
-unfolding digitValues digit
+unfolding digit_values digit
 returns c = refl
 
-pub digit-values-spec : {M : Type 1} → statement M
-digit-values-spec =
+pub digit_values_spec : {M : Type 1} → statement M
+digit_values_spec =
     tie.close
     (tie.spec
     array-write-value

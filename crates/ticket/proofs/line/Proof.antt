@@ -4,7 +4,7 @@ use mathlib.Core.Path.{◌≡◌, ◌∙◌}
 use Prim.Native.Nat.{◌+◌, ◌<◌}
 use native.Mathlib.Omega.{arith}
 use lib.ListN.{length}
-use Rattle.ticket.proofs.Answers.{stands, no_line, no_place, line-fits, the-line, its-place}
+use Rattle.ticket.proofs.Answers.{stands, no_line, no_place, line_fits, the_line, its_place}
 use borrow.Author.Rules.{rules}
 use Rattle.ticket.proofs.line.Statement.{statement}
 use Rattle.ticket.proofs.line.Tie as tie
@@ -35,11 +35,11 @@ line-digits-requires c κs = search rules
 -- the line lies within the ticket
 inside :
     (c : tie.After-line-digits)
-    → c.before.line-start.result + c.line-digits.result < length c.before.before.before.before.before.args.t.now
+    → c.before.line-start.result + c.digits_of_line.result < length c.before.before.before.before.before.args.t.now
 inside c =
     let r = c.before.before.before.line-refusal in
     let z : 0 ≡ r.result = omega arith in
-    omega (arith, c.before.line-start.ensures, c.line-digits.ensures, line-fits _ _ (z ∙ r.ensures))
+    omega (arith, c.before.line-start.ensures, c.digits_of_line.ensures, line_fits _ _ (z ∙ r.ensures))
 
 add-result : tie.Need-overflow-add-result
 add-result c = omega (arith, inside c)
@@ -58,10 +58,10 @@ returns-2 c =
     let r = c.before.before.before.before.line-refusal in
     let z : 0 ≡ r.result = omega arith in
     let a = c.before.before.line-start.ensures in
-    (the-line _ _ (z ∙ r.ensures) a c.before.line-digits.ensures, stands _ (a ∙ its-place _ _ (z ∙ r.ensures)))
+    (the_line _ _ (z ∙ r.ensures) a c.before.digits_of_line.ensures, stands _ (a ∙ its_place _ _ (z ∙ r.ensures)))
 
-pub line-spec : {M : Type 1} → statement M
-line-spec =
+pub line_spec : {M : Type 1} → statement M
+line_spec =
     tie.close
     (tie.spec
     line-refusal-requires

@@ -1,8 +1,8 @@
 -- `ticket::line_digits` meets its contract.
 -- Assumes nothing.
 use mathlib.Core.Path.{ap, ◌∙◌}
-use Rattle.header.specs.Editions.{lineDigits}
-use Rattle.header.proofs.Widths.{low-width}
+use Rattle.header.specs.Editions.{line_digits}
+use Rattle.header.proofs.Widths.{low_width}
 use borrow.Author.Rules.{rules}
 use Rattle.ticket.proofs.line_digits.Statement.{statement}
 use Rattle.ticket.proofs.line_digits.Tie as tie
@@ -14,10 +14,10 @@ line-digits-requires : tie.Need-line-digits-requires
 line-digits-requires c κs = search rules
 
 returns : tie.Need-returns
-returns c = c.line-digits.ensures ∙ ap lineDigits c.before.low-edition.ensures ∙ low-width _
+returns c = c.digits_of_line.ensures ∙ ap line_digits c.before.low-edition.ensures ∙ low_width _
 
-pub line-digits-spec : {M : Type 1} → statement M
-line-digits-spec =
+pub line_digits_spec : {M : Type 1} → statement M
+line_digits_spec =
     tie.close
     (tie.spec
     low-edition-requires

@@ -2,7 +2,7 @@
 -- Assumes nothing.
 use mathlib.Core.Path.{sym, ap, ◌∙◌}
 use Rattle.ticket.specs.Ticket.{answer_in}
-use Rattle.ticket.proofs.Memory.{header-into}
+use Rattle.ticket.proofs.Memory.{header_into}
 use Rattle.ticket.proofs.Reader.{header_refused}
 use borrow.Author.Rules.{rules}
 use Rattle.ticket.proofs.read_any.Statement.{statement}
@@ -25,7 +25,7 @@ read-part-requires c κs =
 returns : tie.Need-returns
 returns c =
     let refused = sym c.before.before.before.heading.ensures.0 ∙ c.before.answer.given.1 in
-    (sym (ap answer_in (header_refused _ _ refused)), header-into _ _ _ refused)
+    (sym (ap answer_in (header_refused _ _ refused)), header_into _ _ _ refused)
 
 same_length : tie.Need-same-length
 same_length c = search rules
@@ -33,8 +33,8 @@ same_length c = search rules
 returns-2 : tie.Need-returns-2
 returns-2 c = c.before.before.read-part.ensures
 
-pub read-any-spec : {M : Type 1} → statement M
-read-any-spec =
+pub read_any_spec : {M : Type 1} → statement M
+read_any_spec =
     tie.close
     (tie.spec
     heading-requires

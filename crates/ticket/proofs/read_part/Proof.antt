@@ -1,7 +1,7 @@
 -- `ticket::read_part` meets its contract.
 -- Assumes nothing.
 use native.Mathlib.Omega.{arith}
-use Rattle.ticket.proofs.Memory.{long, few-frames, part-refused, part-accepted, part-into}
+use Rattle.ticket.proofs.Memory.{long, few_frames, part_refused, part_accepted, part_into_is}
 use borrow.Author.Rules.{rules}
 use Rattle.ticket.proofs.read_part.Statement.{statement}
 use Rattle.ticket.proofs.read_part.Tie as tie
@@ -21,7 +21,7 @@ part-read-lines-end c = search rules
 read-lines-requires : tie.Need-read-lines-requires
 read-lines-requires c κs =
     let b = c.before.before.before.before.before.before in
-    let few = few-frames _ b.args.h b.requires.0 in
+    let few = few_frames _ b.args.h b.requires.0 in
     (c.before.before.before.digit-values.ensures, omega (arith, few, b.requires.1), few)
 
 same_length : tie.Need-same-length
@@ -30,8 +30,8 @@ same_length c = search rules
 returns : tie.Need-returns
 returns c =
     let b = c.before.before.before.before.before.before.before.before.before.before in
-    let r = c.before.before.before.read-lines.ensures in
-    (part-refused _ b.args.h b.requires.0 r.0 (λ e. omega arith), part-into _ b.args.h b.requires.0 _ r.1)
+    let r = c.before.before.before.read_lines.ensures in
+    (part_refused _ b.args.h b.requires.0 r.0 (λ e. omega arith), part_into_is _ b.args.h b.requires.0 _ r.1)
 
 same-length-2 : tie.Need-same-length-2
 same-length-2 c = search rules
@@ -39,11 +39,11 @@ same-length-2 c = search rules
 returns-2 : tie.Need-returns-2
 returns-2 c =
     let b = c.before.before.before.before.before.before.before.before.before.before in
-    let r = c.before.before.before.read-lines.ensures in
-    (part-accepted _ b.args.h b.requires.0 r.0 (omega arith), part-into _ b.args.h b.requires.0 _ r.1)
+    let r = c.before.before.before.read_lines.ensures in
+    (part_accepted _ b.args.h b.requires.0 r.0 (omega arith), part_into_is _ b.args.h b.requires.0 _ r.1)
 
-pub read-part-spec : {M : Type 1} → statement M
-read-part-spec =
+pub read_part_spec : {M : Type 1} → statement M
+read_part_spec =
     tie.close
     (tie.spec
     digit-values-requires

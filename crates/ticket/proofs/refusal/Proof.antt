@@ -1,7 +1,7 @@
 -- `ticket::refusal` meets its contract.
 -- Assumes nothing.
 use mathlib.Core.Path.{sym, ap}
-use Rattle.ticket.specs.Ticket.{refusalOf}
+use Rattle.ticket.specs.Ticket.{refusal_of}
 use borrow.Author.Rules.{rules}
 use Rattle.ticket.proofs.refusal.Statement.{statement}
 use Rattle.ticket.proofs.refusal.Tie as tie
@@ -18,12 +18,12 @@ enum_told c = search rules
 returns : tie.Need-returns
 returns c =
     let read = c.before.before.before.read.ensures.1.1.1 in
-    sym (ap refusalOf (read.refusal _ c.before.answer.given.1))
+    sym (ap refusal_of (read.refusal _ c.before.answer.given.1))
 
 returns-2 : tie.Need-returns-2
 returns-2 c =
     let read = c.before.before.read.ensures.1.1.1 in
-    sym (ap refusalOf (read.list _ c.enum_told.given.1))
+    sym (ap refusal_of (read.list _ c.enum_told.given.1))
 
-pub refusal-spec : {M : Type 1} → statement M
-refusal-spec = tie.close (tie.spec read-requires enum-known-answer enum_told returns returns-2)
+pub refusal_spec : {M : Type 1} → statement M
+refusal_spec = tie.close (tie.spec read-requires enum-known-answer enum_told returns returns-2)

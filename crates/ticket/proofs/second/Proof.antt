@@ -1,7 +1,7 @@
 -- `ticket::second` meets its contract.
 -- Assumes nothing.
 use mathlib.Core.Path.{sym, ◌∙◌}
-use Rattle.ticket.proofs.Answers.{refused-second}
+use Rattle.ticket.proofs.Answers.{refused_second}
 use borrow.Author.Rules.{rules}
 use Rattle.ticket.proofs.second.Statement.{statement}
 use Rattle.ticket.proofs.second.Tie as tie
@@ -19,7 +19,7 @@ second-in-requires : tie.Need-second-in-requires
 second-in-requires c κs = sym c.before.before.before.read.ensures.0 ∙ c.before.answer.given.1
 
 returns : tie.Need-returns
-returns c = refused-second _ _ _ (sym c.before.before.read.ensures.0 ∙ c.enum_told.given.1)
+returns c = refused_second _ _ _ (sym c.before.before.read.ensures.0 ∙ c.enum_told.given.1)
 
 returns-2 : tie.Need-returns-2
 returns-2 c = c.second-in.ensures

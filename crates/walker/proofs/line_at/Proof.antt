@@ -5,7 +5,7 @@ use Prim.Native.Nat.{◌+◌, ◌<◌}
 use native.Mathlib.Omega.{arith}
 use lib.ListN.{length}
 use Rattle.ticket.proofs.Answers.{stands}
-use Rattle.walker.proofs.Bytes.{has_room, the-line, its-place, no_line, no_place}
+use Rattle.walker.proofs.Bytes.{has_room, the_line, its_place, no_line, no_place}
 use borrow.Author.Rules.{rules}
 use Rattle.walker.proofs.line_at.Statement.{statement}
 use Rattle.walker.proofs.line_at.Tie as tie
@@ -22,10 +22,10 @@ line-digits-requires c κs = search rules
 -- the line lies within the bytes
 inside :
     (c : tie.After-line-digits)
-    → c.before.line-start.result + c.line-digits.result < length c.before.before.before.before.before.args.bytes.now
+    → c.before.line-start.result + c.digits_of_line.result < length c.before.before.before.before.before.args.bytes.now
 inside c =
     let e = sym c.before.before.before.has-line.ensures ∙ c.before.before.if1.true in
-    omega (arith, c.before.line-start.ensures, c.line-digits.ensures, (has_room _ _ e).1)
+    omega (arith, c.before.line-start.ensures, c.digits_of_line.ensures, (has_room _ _ e).1)
 
 add-result : tie.Need-overflow-add-result
 add-result c = omega (arith, inside c)
@@ -43,7 +43,7 @@ returns : tie.Need-returns
 returns c =
     let e = sym c.before.before.before.before.has-line.ensures ∙ c.before.before.before.if1.true in
     let a = c.before.before.line-start.ensures in
-    (the-line _ _ e a c.before.line-digits.ensures, stands _ (a ∙ its-place _ _ e))
+    (the_line _ _ e a c.before.digits_of_line.ensures, stands _ (a ∙ its_place _ _ e))
 
 sub-result-2 : tie.Need-overflow-sub-result-2
 sub-result-2 c = search rules
@@ -59,8 +59,8 @@ returns-2 c =
     let e = sym c.before.before.has-line.ensures ∙ c.before.if1.false in
     (no_line _ _ e, stands _ (no_place _ _ e))
 
-pub line-at-spec : {M : Type 1} → statement M
-line-at-spec =
+pub line_at_spec : {M : Type 1} → statement M
+line_at_spec =
     tie.close
     (tie.spec
     has-line-requires

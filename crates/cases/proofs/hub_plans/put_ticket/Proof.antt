@@ -40,8 +40,8 @@ same_length c = search rules
 returns : tie.Need-returns invariant-loop decreases-loop
 returns c = search rules
 
-pub put-ticket-spec : {M : Type 1} → statement M
-put-ticket-spec =
+pub put_ticket_spec : {M : Type 1} → statement M
+put_ticket_spec =
     tie.close
     (tie.spec
     invariant-loop

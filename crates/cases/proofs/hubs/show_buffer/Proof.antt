@@ -43,8 +43,8 @@ loop-again-2 c = search rules
 returns : tie.Need-returns invariant-loop decreases-loop
 returns c = search rules
 
-pub show-buffer-spec : {M : Type 1} → statement M
-show-buffer-spec =
+pub show_buffer_spec : {M : Type 1} → statement M
+show_buffer_spec =
     tie.close
     (tie.spec
     invariant-loop

@@ -34,8 +34,8 @@ same_length c = search rules
 returns : tie.Need-returns invariant-loop decreases-loop
 returns c = search rules
 
-pub put-cameras-spec : {M : Type 1} → statement M
-put-cameras-spec =
+pub put_cameras_spec : {M : Type 1} → statement M
+put_cameras_spec =
     tie.close
     (tie.spec
     invariant-loop

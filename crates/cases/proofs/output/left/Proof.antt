@@ -43,8 +43,8 @@ pad-requires c κs = search rules
 returns : tie.Need-returns invariant-loop decreases-loop
 returns c = search rules
 
-pub left-spec : {M : Type 1} → statement M
-left-spec =
+pub left_spec : {M : Type 1} → statement M
+left_spec =
     tie.close
     (tie.spec
     invariant-loop

@@ -28,7 +28,7 @@ loop-again c = search rules
 returns : tie.Need-returns invariant-loop decreases-loop
 returns c = search rules
 
-pub pad-spec : {M : Type 1} → statement M
-pad-spec =
+pub pad_spec : {M : Type 1} → statement M
+pad_spec =
     tie.close
     (tie.spec invariant-loop decreases-loop loop-holds byte-requires add-i loop-less loop-again returns)

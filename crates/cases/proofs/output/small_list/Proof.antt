@@ -34,8 +34,8 @@ loop-again c = search rules
 returns : tie.Need-returns invariant-loop decreases-loop
 returns c = search rules
 
-pub small-list-spec : {M : Type 1} → statement M
-small-list-spec =
+pub small_list_spec : {M : Type 1} → statement M
+small_list_spec =
     tie.close
     (tie.spec
     invariant-loop

@@ -50,8 +50,8 @@ loop-again c = search rules
 returns : tie.Need-returns invariant-loop decreases-loop
 returns c = search rules
 
-pub series-spec : {M : Type 1} → statement M
-series-spec =
+pub series_spec : {M : Type 1} → statement M
+series_spec =
     tie.close
     (tie.spec
     invariant-loop

@@ -34,8 +34,8 @@ loop-again-2 c = search rules
 returns : tie.Need-returns invariant-loop decreases-loop
 returns c = search rules
 
-pub first-space-spec : {M : Type 1} → statement M
-first-space-spec =
+pub first_space_spec : {M : Type 1} → statement M
+first_space_spec =
     tie.close
     (tie.spec
     invariant-loop

@@ -37,8 +37,8 @@ of-cards-requires c κs = search rules
 returns : tie.Need-returns invariant-loop decreases-loop
 returns c = search rules
 
-pub frames-of-cards-spec : {M : Type 1} → statement M
-frames-of-cards-spec =
+pub frames_of_cards_spec : {M : Type 1} → statement M
+frames_of_cards_spec =
     tie.close
     (tie.spec
     invariant-loop

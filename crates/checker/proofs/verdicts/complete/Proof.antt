@@ -38,8 +38,8 @@ returns-4 c =
     let args = c.before.before.before.args in
     sym (ap (λ found. completed found args.top.0 args.peak) c.before.found3.given.1)
 
-pub complete-spec : {M : Type 1} → statement M
-complete-spec =
+pub complete_spec : {M : Type 1} → statement M
+complete_spec =
     tie.close
     (tie.spec
     enum_told

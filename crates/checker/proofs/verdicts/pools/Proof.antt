@@ -18,5 +18,5 @@ pools-requires-2 c κs = search rules
 returns-2 : tie.Need-returns-2
 returns-2 c = search rules
 
-pub pools-spec : {M : Type 1} → statement M
-pools-spec = tie.close (tie.spec pools-requires returns pools-requires-2 returns-2)
+pub pools_spec : {M : Type 1} → statement M
+pools_spec = tie.close (tie.spec pools-requires returns pools-requires-2 returns-2)

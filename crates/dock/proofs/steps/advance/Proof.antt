@@ -1,12 +1,12 @@
 -- `dock::steps::advance` meets its contract.
 -- Assumes nothing.
-use Rattle.dock.proofs.Taken.{stays-broken}
+use Rattle.dock.proofs.Taken.{stays_broken}
 use borrow.Author.Rules.{rules}
 use Rattle.dock.proofs.steps.advance.Statement.{statement}
 use Rattle.dock.proofs.steps.advance.Tie as tie
 
 returns : tie.Need-returns
-returns c = stays-broken c.before.before.args.dock _ _ c.if1.true
+returns c = stays_broken c.before.before.args.dock _ _ c.if1.true
 
 enum-known-step : tie.Need-enum-known-step
 enum-known-step c = search rules
@@ -48,8 +48,8 @@ same-length-3 c = search rules
 returns-4 : tie.Need-returns-4
 returns-4 c = rw c.before.before.before.before.enum_told.given.1 c.before.before.end-cycle.ensures
 
-pub advance-spec : {M : Type 1} → statement M
-advance-spec =
+pub advance_spec : {M : Type 1} → statement M
+advance_spec =
     tie.close
     (tie.spec
     returns

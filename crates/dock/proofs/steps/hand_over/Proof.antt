@@ -3,7 +3,7 @@
 use borrow.Author.Rules.{rules}
 use Prim.Native.Nat.{◌-◌}
 use native.Mathlib.Omega.{arith}
-use Rattle.dock.proofs.HandOver.{Handing, none_yet, all-handed, next-not-held, next-held}
+use Rattle.dock.proofs.HandOver.{Handing, none_yet, all_handed, next_not_held, next_held}
 use Rattle.dock.proofs.steps.hand_over.Statement.{statement}
 use Rattle.dock.proofs.steps.hand_over.Tie as tie
 
@@ -26,7 +26,7 @@ same_length : tie.Need-same-length invariant-loop decreases-loop
 same_length c = c.before.before.before.loop.invariant.bytes.same_length
 
 returns : tie.Need-returns invariant-loop decreases-loop
-returns c = next-not-held c.before.before.before.loop.invariant c.before.before.loop-test.true c.if1.true
+returns c = next_not_held c.before.before.before.loop.invariant c.before.before.loop-test.true c.if1.true
 
 slice-write-memory : tie.Need-slice-write-memory invariant-loop decreases-loop
 slice-write-memory c = omega (arith, c.before.before.before.loop.invariant.bytes.same_length, c.before.before.before.before.requires)
@@ -40,16 +40,16 @@ loop-less c = search rules
 loop-again : tie.Need-loop-preserved invariant-loop decreases-loop
 loop-again c =
     let v = c.before.before.before.loop.invariant in
-    next-held v c.before.before.loop-test.true (omega (arith, v.bytes.same_length, c.before.before.before.before.requires)) c.if1.false
+    next_held v c.before.before.loop-test.true (omega (arith, v.bytes.same_length, c.before.before.before.before.requires)) c.if1.false
 
 same-length-2 : tie.Need-same-length-2 invariant-loop decreases-loop
 same-length-2 c = c.before.loop.invariant.bytes.same_length
 
 returns-2 : tie.Need-returns-2 invariant-loop decreases-loop
-returns-2 c = all-handed c.before.loop.invariant c.loop-test.false
+returns-2 c = all_handed c.before.loop.invariant c.loop-test.false
 
-pub hand-over-spec : {M : Type 1} → statement M
-hand-over-spec =
+pub hand_over_spec : {M : Type 1} → statement M
+hand_over_spec =
     tie.close
     (tie.spec
     invariant-loop

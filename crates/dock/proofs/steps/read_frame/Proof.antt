@@ -5,9 +5,9 @@ use mathlib.Core.Path.{◌≡◌, sym, ◌∙◌}
 use mathlib.Core.Bool.{true}
 use Prim.Native.Nat.{ℕ, ◌<◌}
 use lib.ListN.{get_or}
-use Rattle.dock.specs.Drive.{takesBuffer}
-use Rattle.dock.proofs.ReadStep.{takes-not-held, takes-counted}
-use Rattle.dock.proofs.Taken.{read-past-list, read-card-busy, read-no-buffer, read-buffer}
+use Rattle.dock.specs.Drive.{takes_buffer}
+use Rattle.dock.proofs.ReadStep.{takes_not_held, takes_counted}
+use Rattle.dock.proofs.Taken.{read_past_list, read_card_busy, read_no_buffer, read_buffer}
 use borrow.Author.Rules.{rules}
 use Rattle.dock.proofs.steps.read_frame.Statement.{statement}
 use Rattle.dock.proofs.steps.read_frame.Tie as tie
@@ -16,7 +16,7 @@ break-off-requires : tie.Need-break-off-requires
 break-off-requires c κs = search rules
 
 returns : tie.Need-returns
-returns c = rw c.break-off.ensures (read-past-list _ _ c.before.before.before.before.requires.1 _ c.before.if1.true)
+returns c = rw c.break-off.ensures (read_past_list _ _ c.before.before.before.before.requires.1 _ c.before.if1.true)
 
 cast-at : tie.Need-overflow-cast-at
 cast-at c = search rules
@@ -38,7 +38,7 @@ returns-2 c =
     let s = c.before.before.before in
     let start = s.before.before.before.before.before in
     rw c.break-off2.ensures
-    (read-card-busy start.args.dock _ start.requires.1 _ s.before.before.if1.false s.card-in.ensures
+    (read_card_busy start.args.dock _ start.requires.1 _ s.before.before.if1.false s.card_in.ensures
     c.before.if2.true)
 
 element-write-d : tie.Need-element-write-d
@@ -54,21 +54,21 @@ start_of c = c.before.before.before.before.before.before.before.before.before
 abbrev byte_of : tie.Then3 → ℕ
 byte_of c = get_or (start_of c).args.memory.now (start_of c).args.p.0 0
 
-takes : (c : tie.Then3) → takesBuffer (start_of c).args.dock (start_of c).args.p.0 (byte_of c) ≡ true
+takes : (c : tie.Then3) → takes_buffer (start_of c).args.dock (start_of c).args.p.0 (byte_of c) ≡ true
 takes c = sym c.before.takes-buffer.ensures ∙ c.if3.true
 
 add-memory : tie.Need-overflow-add-memory
-add-memory c = omega (arith, takes-not-held (start_of c).args.dock (start_of c).args.p.0 (byte_of c) (takes c))
+add-memory c = omega (arith, takes_not_held (start_of c).args.dock (start_of c).args.p.0 (byte_of c) (takes c))
 
 slice-write-memory : tie.Need-slice-write-memory
 slice-write-memory c = search rules
 
-frames-fit : (c : tie.Start) → c.args.dock.frames < 65536
-frames-fit c = search rules
+frames_fit : (c : tie.Start) → c.args.dock.frames < 65536
+frames_fit c = search rules
 
 add-d : tie.Need-overflow-add-d
 add-d c =
-    omega (arith, frames-fit (start_of c), takes-counted (start_of c).args.dock (start_of c).args.p.0 (byte_of c) (takes c))
+    omega (arith, frames_fit (start_of c), takes_counted (start_of c).args.dock (start_of c).args.p.0 (byte_of c) (takes c))
 
 same_length : tie.Need-same-length
 same_length c = search rules
@@ -77,17 +77,17 @@ returns-3 : tie.Need-returns-3
 returns-3 c =
     let s = c.before.before.before.before in
     let pre = (start_of c).requires in
-    read-buffer (start_of c).args.dock _ pre.1 _ s.before.before.if1.false s.card-in.ensures c.before.before.if2.false (takes c)
+    read_buffer (start_of c).args.dock _ pre.1 _ s.before.before.if1.false s.card_in.ensures c.before.before.if2.false (takes c)
 
 returns-4 : tie.Need-returns-4
 returns-4 c =
     let s = c.before.before.before.before in
     let start = s.before.before.before.before.before in
-    read-no-buffer start.args.dock _ start.requires.1 _ s.before.before.if1.false s.card-in.ensures c.before.before.if2.false
+    read_no_buffer start.args.dock _ start.requires.1 _ s.before.before.if1.false s.card_in.ensures c.before.before.if2.false
     (sym c.before.takes-buffer.ensures ∙ c.if3.false)
 
-pub read-frame-spec : {M : Type 1} → statement M
-read-frame-spec =
+pub read_frame_spec : {M : Type 1} → statement M
+read_frame_spec =
     tie.close
     (tie.spec
     break-off-requires

@@ -14,5 +14,5 @@ check-answer-requires c κs = search rules
 returns : tie.Need-returns
 returns c = checked _ _ _ _ c.check-answer.ensures c.before.check.ensures
 
-pub dockplan-check-spec : {M : Type 1} → statement M
-dockplan-check-spec = tie.close (tie.spec check-requires check-answer-requires returns)
+pub dockplan_check_spec : {M : Type 1} → statement M
+dockplan_check_spec = tie.close (tie.spec check-requires check-answer-requires returns)

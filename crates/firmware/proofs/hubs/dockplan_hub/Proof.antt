@@ -20,5 +20,5 @@ returns c =
     let cards = called.before.before.before.before.before.args.cards.now in
     gathered _ _ cards _ _ _ c.hub-answer.ensures called.gather.ensures
 
-pub dockplan-hub-spec : {M : Type 1} → statement M
-dockplan-hub-spec = tie.close (tie.spec gather-requires hub-answer-requires same_length returns)
+pub dockplan_hub_spec : {M : Type 1} → statement M
+dockplan_hub_spec = tie.close (tie.spec gather-requires hub-answer-requires same_length returns)

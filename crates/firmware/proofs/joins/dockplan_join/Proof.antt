@@ -17,5 +17,5 @@ same_length c = search rules
 returns : tie.Need-returns
 returns c = joined _ _ _ _ _ _ c.join-answer.ensures c.before.before.before.join.ensures
 
-pub dockplan-join-spec : {M : Type 1} → statement M
-dockplan-join-spec = tie.close (tie.spec join-requires join-answer-requires same_length returns)
+pub dockplan_join_spec : {M : Type 1} → statement M
+dockplan_join_spec = tie.close (tie.spec join-requires join-answer-requires same_length returns)

@@ -17,5 +17,5 @@ same_length c = search rules
 returns : tie.Need-returns
 returns c = planned _ _ _ _ _ c.plan-answer.ensures c.before.before.before.plan.ensures
 
-pub dockplan-plan-spec : {M : Type 1} → statement M
-dockplan-plan-spec = tie.close (tie.spec plan-requires plan-answer-requires same_length returns)
+pub dockplan_plan_spec : {M : Type 1} → statement M
+dockplan_plan_spec = tie.close (tie.spec plan-requires plan-answer-requires same_length returns)

@@ -14,5 +14,5 @@ counts-requires c κs = search rules
 returns : tie.Need-returns
 returns c = counted c.before.before.before.args.ticket.now _ _ c.before.refusal.ensures c.counts.ensures
 
-pub dockplan-counts-spec : {M : Type 1} → statement M
-dockplan-counts-spec = tie.close (tie.spec refusal-requires counts-requires returns)
+pub dockplan_counts_spec : {M : Type 1} → statement M
+dockplan_counts_spec = tie.close (tie.spec refusal-requires counts-requires returns)

@@ -1,7 +1,7 @@
 -- `firmware::tickets::dockplan_line` meets its contract.
 -- Assumes nothing.
 use native.Mathlib.Omega.{arith}
-use Rattle.firmware.proofs.Lines.{no_part, the-part}
+use Rattle.firmware.proofs.Lines.{no_part, the_part}
 use borrow.Author.Rules.{rules}
 use Rattle.firmware.proofs.tickets.dockplan_line.Statement.{statement}
 use Rattle.firmware.proofs.tickets.dockplan_line.Tie as tie
@@ -16,7 +16,7 @@ line-start-requires : tie.Need-line-start-requires
 line-start-requires c κs = search rules
 
 returns-2 : tie.Need-returns-2
-returns-2 c = the-part _ _ c.before.before.line.result.now c.before.before.line.ensures.0 _ c.line-start.ensures (λ z. omega (arith, z))
+returns-2 c = the_part _ _ c.before.before.line.result.now c.before.before.line.ensures.0 _ c.line-start.ensures (λ z. omega (arith, z))
 
-pub dockplan-line-spec : {M : Type 1} → statement M
-dockplan-line-spec = tie.close (tie.spec line-requires returns line-start-requires returns-2)
+pub dockplan_line_spec : {M : Type 1} → statement M
+dockplan_line_spec = tie.close (tie.spec line-requires returns line-start-requires returns-2)

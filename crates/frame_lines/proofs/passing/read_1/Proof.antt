@@ -7,31 +7,31 @@ use native.Mathlib.Omega.{arith}
 use lib.ListN.{length, drop, length-set}
 use Rattle.counting.specs.Count.{tabulate}
 use Rattle.counting.proofs.Lists.{fill}
-use Rattle.header.specs.Editions.{cardDigits, lineDigits, lineBytes}
-use Rattle.frame_lines.specs.Lines.{cardAt, linesFault}
-use Rattle.frame_lines.proofs.OneLine.{line-fits, line-next, is-card, too-high, other-end, passes, nothing-asked}
+use Rattle.header.specs.Editions.{card_digits, line_digits, line_bytes}
+use Rattle.frame_lines.specs.Lines.{card_at, lines_fault}
+use Rattle.frame_lines.proofs.OneLine.{line_fits, line_next, is_card, too_high, other_end, passes, nothing_asked}
 use borrow.Author.Rules.{rules}
 use Rattle.frame_lines.proofs.passing.read_1.Statement.{statement}
 use Rattle.frame_lines.proofs.passing.read_1.Tie as tie
 
 abbrev invariant-loop : tie.invariant-loop
 invariant-loop value s edition cards lines card₀ below at₀ i₀ card at i =
-    (i ≤ lines) × (at ≡ lineBytes edition * i) × (linesFault edition s cards i ≡ 0) × (length card ≡ length card₀)
-    × (card ≡ tabulate i (cardAt edition s) ++ drop i card₀)
+    (i ≤ lines) × (at ≡ line_bytes edition * i) × (lines_fault edition s cards i ≡ 0) × (length card ≡ length card₀)
+    × (card ≡ tabulate i (card_at edition s) ++ drop i card₀)
 
 abbrev decreases-loop : tie.decreases-loop
 decreases-loop value s edition cards lines card₀ below at₀ i₀ card at i = lines - i
 
 -- in the loop the line lies within the part
-fits : (c : tie.In-loop invariant-loop decreases-loop) → c.before.loop.at + cardDigits < length c.before.before.before.before.args.s.now
+fits : (c : tie.In-loop invariant-loop decreases-loop) → c.before.loop.at + card_digits < length c.before.before.before.before.args.s.now
 fits c =
     let a = c.before.before.before.before in
     let l = c.before.loop in
     let long = length a.args.s.now in
-    omega (arith, a.requires.4, line-fits a.args.edition l.i l.at l.invariant.1 a.args.lines long c.loop-test.true a.requires.3)
+    omega (arith, a.requires.4, line_fits a.args.edition l.i l.at l.invariant.1 a.args.lines long c.loop-test.true a.requires.3)
 
 loop-holds : tie.Need-loop-init invariant-loop decreases-loop
-unfolding linesFault
+unfolding lines_fault
 loop-holds c = (omega arith, omega arith, refl, refl, refl)
 
 shared-slice-read-pair : tie.Need-shared-slice-read-pair invariant-loop decreases-loop
@@ -56,7 +56,7 @@ returns c =
     record {
       up_to = omega arith;
       pass = l.invariant.2;
-      stops = λ k. too-high _ _ _ l.i l.at v.result l.invariant.1 v.ensures (omega arith);
+      stops = λ k. too_high _ _ _ l.i l.at v.result l.invariant.1 v.ensures (omega arith);
       filled = l.invariant.4;
     }
 
@@ -74,11 +74,11 @@ returns-2 c =
     let l = c.before.before.before.before.before.before.before.loop in
     let v = c.before.before.before.pair in
     let a = c.before.before.before.before.before.before.before.before.before.before in
-    let q : cardDigits ≡ lineDigits a.args.edition = omega (arith, a.requires.4) in
+    let q : card_digits ≡ line_digits a.args.edition = omega (arith, a.requires.4) in
     record {
       up_to = omega arith;
       pass = l.invariant.2;
-      stops = λ k. other-end _ _ _ l.i l.at v.result l.invariant.1 v.ensures q (λ e. omega arith);
+      stops = λ k. other_end _ _ _ l.i l.at v.result l.invariant.1 v.ensures q (λ e. omega arith);
       filled = l.invariant.4;
     }
 
@@ -105,15 +105,15 @@ loop-again c =
     let l = c.before.before.before.before.before.before.before.loop in
     let v = c.before.before.before.pair in
     let a = c.before.before.before.before.before.before.before.before.before.before in
-    let q : cardDigits ≡ lineDigits a.args.edition = omega (arith, a.requires.4) in
-    let is : v.result ≡ cardAt a.args.edition a.args.s.now l.i = is-card _ _ a.args.cards _ l.at v.result l.invariant.1 v.ensures in
-    let none = nothing-asked a.args.edition a.args.s.now a.requires.4 (l.at + cardDigits) l.i in
+    let q : card_digits ≡ line_digits a.args.edition = omega (arith, a.requires.4) in
+    let is : v.result ≡ card_at a.args.edition a.args.s.now l.i = is_card _ _ a.args.cards _ l.at v.result l.invariant.1 v.ensures in
+    let none = nothing_asked a.args.edition a.args.s.now a.requires.4 (l.at + card_digits) l.i in
     let inside = fits c.before.before.before.before.before.before in (
       omega arith,
-      line-next a.args.edition l.i l.at l.invariant.1 q,
+      line_next a.args.edition l.i l.at l.invariant.1 q,
       passes _ _ _ _ l.at v.result l.invariant.1 v.ensures (omega arith) (omega arith) none.0 none.1 q inside (omega arith) l.invariant.2,
       simp length-set l.invariant.3,
-      rw (l.invariant.4, is) (fill (cardAt a.args.edition a.args.s.now) l.i a.args.card.now (omega arith)),
+      rw (l.invariant.4, is) (fill (card_at a.args.edition a.args.s.now) l.i a.args.card.now (omega arith)),
     )
 
 same-length-3 : tie.Need-same-length-3 invariant-loop decreases-loop
@@ -124,8 +124,8 @@ returns-3 c =
     let l = c.before.loop in
     record { up_to = omega arith; pass = l.invariant.2; stops = λ k. absurd (omega arith); filled = l.invariant.4 }
 
-pub read-1-spec : {M : Type 1} → statement M
-read-1-spec =
+pub read_1_spec : {M : Type 1} → statement M
+read_1_spec =
     tie.close
     (tie.spec
     invariant-loop

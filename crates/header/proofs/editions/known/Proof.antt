@@ -3,7 +3,7 @@
 use mathlib.Core.Path.{sym}
 use mathlib.Core.Logic.{inl}
 use native.Mathlib.Omega.{arith}
-use Rattle.header.proofs.Widths.{known_is, other-known}
+use Rattle.header.proofs.Widths.{known_is, other_known}
 use Rattle.header.proofs.editions.known.Statement.{statement}
 use Rattle.header.proofs.editions.known.Tie as tie
 
@@ -11,10 +11,10 @@ returns : tie.Need-returns
 returns c = sym (known_is _ (inl (omega arith)))
 
 returns-2 : tie.Need-returns-2
-returns-2 c = other-known _ (λ e. omega arith)
+returns-2 c = other_known _ (λ e. omega arith)
 
-pub known-spec : {M : Type 1} → statement M
-known-spec =
+pub known_spec : {M : Type 1} → statement M
+known_spec =
     tie.close
     (tie.spec
     returns

@@ -2,7 +2,7 @@
 -- Assumes nothing.
 use mathlib.Core.Path.{ap, ◌∙◌}
 use Rattle.hub.specs.Words.{word_in}
-use Rattle.hub.proofs.Turning.{first-place}
+use Rattle.hub.proofs.Turning.{first_place}
 use borrow.Author.Rules.{rules}
 use Rattle.hub.proofs.patterns.word.Statement.{statement}
 use Rattle.hub.proofs.patterns.word.Tie as tie
@@ -17,7 +17,7 @@ eight-at-requires : tie.Need-eight-at-requires
 eight-at-requires c κs = search rules
 
 returns : tie.Need-returns
-returns c = c.eight-at.ensures ∙ ap (λ row. word_in row 0) c.before.before.row.ensures ∙ first-place c.before.before.before.args.pattern
+returns c = c.eight-at.ensures ∙ ap (λ row. word_in row 0) c.before.before.row.ensures ∙ first_place c.before.before.before.args.pattern
 
-pub word-spec : {M : Type 1} → statement M
-word-spec = tie.close (tie.spec row-requires slice-aggregate-eight-at eight-at-requires returns)
+pub word_spec : {M : Type 1} → statement M
+word_spec = tie.close (tie.spec row-requires slice-aggregate-eight-at eight-at-requires returns)

@@ -3,9 +3,9 @@
 use Prim.Native.Nat.{◌-◌, ◌≤◌}
 use mathlib.Core.Path.{refl, ap, ◌∙◌}
 use native.Mathlib.Omega.{arith}
-use Rattle.hub.specs.Patterns.{patternCard}
+use Rattle.hub.specs.Patterns.{pattern_card}
 use Rattle.hub.specs.Words.{word_at}
-use Rattle.hub.proofs.Placing.{Ready, ready-next}
+use Rattle.hub.proofs.Placing.{Ready, ready_next}
 use borrow.Author.Rules.{rules}
 use Rattle.hub.proofs.patterns.words_of.Statement.{statement}
 use Rattle.hub.proofs.patterns.words_of.Tie as tie
@@ -17,7 +17,7 @@ abbrev decreases-loop : tie.decreases-loop
 decreases-loop chosen n words₀ q₀ words q = n - q
 
 loop-holds : tie.Need-loop-init invariant-loop decreases-loop
-loop-holds c = (omega arith, record { so-many = refl; each = λ j l. absurd (omega arith) })
+loop-holds c = (omega arith, record { so_many = refl; each = λ j l. absurd (omega arith) })
 
 shared-slice-read-index : tie.Need-shared-slice-read-index invariant-loop decreases-loop
 shared-slice-read-index c = search rules
@@ -50,16 +50,16 @@ loop-again : tie.Need-loop-preserved invariant-loop decreases-loop
 loop-again c =
     let entry = c.before.before.before.before.before.before in
     let at = c.before.before.before.before.loop in
-    let word = c.word.ensures ∙ ap (λ p. word_at (patternCard p) 0) c.before.index.ensures in
-    (omega arith, ready-next _ at.q at.words _ (omega (arith, entry.requires.count)) at.invariant.1 word)
+    let word = c.word.ensures ∙ ap (λ p. word_at (pattern_card p) 0) c.before.index.ensures in
+    (omega arith, ready_next _ at.q at.words _ (omega (arith, entry.requires.count)) at.invariant.1 word)
 
 returns : tie.Need-returns invariant-loop decreases-loop
 returns c =
     let ready = c.before.loop.invariant.1 in
-    record { so-many = ready.so-many; each = λ q l. ready.each q (omega arith) }
+    record { so_many = ready.so_many; each = λ q l. ready.each q (omega arith) }
 
-pub words-of-spec : {M : Type 1} → statement M
-words-of-spec =
+pub words_of_spec : {M : Type 1} → statement M
+words_of_spec =
     tie.close
     (tie.spec
     invariant-loop

@@ -66,8 +66,8 @@ returns c =
     let given = first.before.before.before.before.before.before.args in
     eight_is given.s.now given.at _ _ _ first.four.ensures fours.four2.ensures c.eight.ensures
 
-pub eight-at-spec : {M : Type 1} → statement M
-eight-at-spec =
+pub eight_at_spec : {M : Type 1} → statement M
+eight_at_spec =
     tie.close
     (tie.spec
     shared-slice-read-four

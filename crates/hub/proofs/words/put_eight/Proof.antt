@@ -7,7 +7,7 @@ use native.Mathlib.Nat.{add-zero}
 use lib.ListN.{length, length-set}
 use lib.Seq.{sets}
 use Rattle.hub.specs.Words.{low_bytes}
-use Rattle.hub.proofs.Turning.{byte_put, all-put}
+use Rattle.hub.proofs.Turning.{byte_put, all_put}
 use borrow.Author.Rules.{rules}
 use Rattle.hub.proofs.words.put_eight.Statement.{statement}
 use Rattle.hub.proofs.words.put_eight.Tie as tie
@@ -48,10 +48,10 @@ same_length c = c.before.loop.invariant.1
 returns : tie.Need-returns invariant-loop decreases-loop
 returns c =
     let at = c.before.loop in
-    sym (all-put at.out _ at.j at.rest (omega arith)) ∙ at.invariant.2
+    sym (all_put at.out _ at.j at.rest (omega arith)) ∙ at.invariant.2
 
-pub put-eight-spec : {M : Type 1} → statement M
-put-eight-spec =
+pub put_eight_spec : {M : Type 1} → statement M
+put_eight_spec =
     tie.close
     (tie.spec
     invariant-loop

@@ -1,7 +1,7 @@
 -- `hub::words::turned` meets its contract.
 -- Assumes nothing.
 use native.Mathlib.Omega.{arith}
-use Rattle.hub.proofs.Turning.{turn-fits}
+use Rattle.hub.proofs.Turning.{turn_fits}
 use borrow.Author.Rules.{rules}
 use Rattle.hub.proofs.words.turned.Statement.{statement}
 use Rattle.hub.proofs.words.turned.Tie as tie
@@ -10,10 +10,10 @@ mul-result : tie.Need-overflow-mul-result
 mul-result c = search rules
 
 add-result : tie.Need-overflow-add-result
-add-result c = record { fits = turn-fits c.args.word (omega arith) }
+add-result c = record { fits = turn_fits c.args.word (omega arith) }
 
 returns : tie.Need-returns
 returns c = search rules
 
-pub turned-spec : {M : Type 1} → statement M
-turned-spec = tie.close (tie.spec mul-result add-result returns)
+pub turned_spec : {M : Type 1} → statement M
+turned_spec = tie.close (tie.spec mul-result add-result returns)

@@ -52,8 +52,8 @@ loop-again c = search rules
 returns : tie.Need-returns invariant-loop2 decreases-loop2 invariant-loop decreases-loop
 returns c = search rules
 
-pub compare-lists-spec : {M : Type 1} → statement M
-compare-lists-spec =
+pub compare_lists_spec : {M : Type 1} → statement M
+compare_lists_spec =
     tie.close
     (tie.spec
     invariant-loop2

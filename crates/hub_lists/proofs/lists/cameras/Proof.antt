@@ -52,8 +52,8 @@ loop-again-2 c = search rules
 returns : tie.Need-returns invariant-loop decreases-loop
 returns c = search rules
 
-pub cameras-spec : {M : Type 1} → statement M
-cameras-spec =
+pub cameras_spec : {M : Type 1} → statement M
+cameras_spec =
     tie.close
     (tie.spec
     invariant-loop

@@ -43,8 +43,8 @@ loop-again c = search rules
 returns : tie.Need-returns invariant-loop decreases-loop
 returns c = search rules
 
-pub cards-spec : {M : Type 1} → statement M
-cards-spec =
+pub cards_spec : {M : Type 1} → statement M
+cards_spec =
     tie.close
     (tie.spec
     invariant-loop

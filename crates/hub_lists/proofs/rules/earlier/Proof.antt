@@ -34,8 +34,8 @@ loop-again c = search rules
 returns : tie.Need-returns invariant-loop decreases-loop
 returns c = search rules
 
-pub earlier-spec : {M : Type 1} → statement M
-earlier-spec =
+pub earlier_spec : {M : Type 1} → statement M
+earlier_spec =
     tie.close
     (tie.spec
     invariant-loop

@@ -34,8 +34,8 @@ loop-again-2 c = search rules
 returns : tie.Need-returns invariant-loop decreases-loop
 returns c = search rules
 
-pub fullest-spec : {M : Type 1} → statement M
-fullest-spec =
+pub fullest_spec : {M : Type 1} → statement M
+fullest_spec =
     tie.close
     (tie.spec
     invariant-loop

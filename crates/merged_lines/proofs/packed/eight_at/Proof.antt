@@ -1,7 +1,7 @@
 -- `merged_lines::packed::eight_at` meets its contract.
 -- Assumes nothing.
 use native.Mathlib.Omega.{arith}
-use Rattle.merged_lines.proofs.Packing.{packed-eight}
+use Rattle.merged_lines.proofs.Packing.{packed_eight}
 use borrow.Author.Rules.{rules}
 use Rattle.merged_lines.proofs.packed.eight_at.Statement.{statement}
 use Rattle.merged_lines.proofs.packed.eight_at.Tie as tie
@@ -65,10 +65,10 @@ returns c =
     let fours = c.before in
     let first = fours.before.before.before.before.before in
     let given = first.before.before.before.before.before.before.args in
-    omega (arith, c.eight.ensures, fours.four2.ensures, first.four.ensures, packed-eight given.s.now given.at)
+    omega (arith, c.eight.ensures, fours.four2.ensures, first.four.ensures, packed_eight given.s.now given.at)
 
-pub eight-at-spec : {M : Type 1} → statement M
-eight-at-spec =
+pub eight_at_spec : {M : Type 1} → statement M
+eight_at_spec =
     tie.close
     (tie.spec
     shared-slice-read-four

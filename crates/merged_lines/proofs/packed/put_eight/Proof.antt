@@ -1,6 +1,6 @@
 -- `merged_lines::packed::put_eight` meets its contract.
 -- Assumes nothing.
-use Rattle.merged_lines.proofs.Packing.{put-runs-256}
+use Rattle.merged_lines.proofs.Packing.{put_runs_256}
 use borrow.Author.Rules.{rules}
 use Rattle.merged_lines.proofs.packed.put_eight.Statement.{statement}
 use Rattle.merged_lines.proofs.packed.put_eight.Tie as tie
@@ -27,10 +27,10 @@ returns : tie.Need-returns
 returns c =
     let high = c.before.before.before.before.before.before.put_four.ensures in
     let low = c.before.before.put-four2.ensures in
-    put-runs-256 4 4 _ _ _ _ _ high low
+    put_runs_256 4 4 _ _ _ _ _ high low
 
-pub put-eight-spec : {M : Type 1} → statement M
-put-eight-spec =
+pub put_eight_spec : {M : Type 1} → statement M
+put_eight_spec =
     tie.close
     (tie.spec
     cast-put-four

@@ -1,6 +1,6 @@
 -- `merged_lines::packed::put_four` meets its contract.
 -- Assumes nothing.
-use Rattle.merged_lines.proofs.Packing.{put-runs-256}
+use Rattle.merged_lines.proofs.Packing.{put_runs_256}
 use borrow.Author.Rules.{rules}
 use Rattle.merged_lines.proofs.packed.put_four.Statement.{statement}
 use Rattle.merged_lines.proofs.packed.put_four.Tie as tie
@@ -27,10 +27,10 @@ returns : tie.Need-returns
 returns c =
     let high = c.before.before.before.before.before.before.put_two.ensures in
     let low = c.before.before.put-two2.ensures in
-    put-runs-256 2 2 _ _ _ _ _ high low
+    put_runs_256 2 2 _ _ _ _ _ high low
 
-pub put-four-spec : {M : Type 1} → statement M
-put-four-spec =
+pub put_four_spec : {M : Type 1} → statement M
+put_four_spec =
     tie.close
     (tie.spec
     cast-put-two

@@ -28,7 +28,7 @@ same_length c = search rules
 returns : tie.Need-returns
 returns c = put_two _ _ _ (omega arith)
 
-pub put-two-spec : {M : Type 1} → statement M
-put-two-spec =
+pub put_two_spec : {M : Type 1} → statement M
+put_two_spec =
     tie.close
     (tie.spec cast-out slice-write-out cast-out-2 add-out slice-write-out-2 same_length returns)

@@ -1,7 +1,7 @@
 -- `merged_lines::packed::upper_two` meets its contract.
 -- Assumes nothing.
 use mathlib.Core.Path.{refl}
-use Rattle.merged_lines.proofs.Capitals.{two-less, two-upper}
+use Rattle.merged_lines.proofs.Capitals.{two_less, two_upper}
 use borrow.Author.Rules.{rules}
 use Rattle.merged_lines.proofs.packed.upper_two.Statement.{statement}
 use Rattle.merged_lines.proofs.packed.upper_two.Tie as tie
@@ -16,10 +16,10 @@ add-result : tie.Need-overflow-add-result
 add-result c = search rules
 
 sub-result : tie.Need-overflow-sub-result
-sub-result c = two-less _ _ _ c.requires.0 c.requires.1 refl
+sub-result c = two_less _ _ _ c.requires.0 c.requires.1 refl
 
 returns : tie.Need-returns
-returns c = two-upper _ _ _ c.requires.0 c.requires.1 refl
+returns c = two_upper _ _ _ c.requires.0 c.requires.1 refl
 
-pub upper-two-spec : {M : Type 1} → statement M
-upper-two-spec = tie.close (tie.spec mul-x add-x add-result sub-result returns)
+pub upper_two_spec : {M : Type 1} → statement M
+upper_two_spec = tie.close (tie.spec mul-x add-x add-result sub-result returns)

@@ -1,8 +1,8 @@
 -- `plain_answers::checks::check_answer` meets its contract.
 -- Assumes nothing.
 use mathlib.Core.Path.{sym, ap, ◌∙◌}
-use Rattle.checker.specs.Numbers.{numbersOf}
-use Rattle.plain_answers.specs.Answers.{checkAnswer}
+use Rattle.checker.specs.Numbers.{numbers_of}
+use Rattle.plain_answers.specs.Answers.{check_answer}
 use borrow.Author.Rules.{rules}
 use Rattle.plain_answers.proofs.checks.check_answer.Statement.{statement}
 use Rattle.plain_answers.proofs.checks.check_answer.Tie as tie
@@ -32,22 +32,22 @@ enum-known-verdict-5 : tie.Need-enum-known-verdict-5
 enum-known-verdict-5 c = search rules
 
 returns : tie.Need-returns
-returns c = sym (ap (λ x. checkAnswer (numbersOf x)) c.before.verdict.given.1)
+returns c = sym (ap (λ x. check_answer (numbers_of x)) c.before.verdict.given.1)
 
 returns-2 : tie.Need-returns-2
-returns-2 c = c.fault.ensures ∙ sym (ap (λ x. checkAnswer (numbersOf x)) c.before.before.verdict2.given.1)
+returns-2 c = c.fault.ensures ∙ sym (ap (λ x. check_answer (numbers_of x)) c.before.before.verdict2.given.1)
 
 returns-3 : tie.Need-returns-3
-returns-3 c = c.fault2.ensures ∙ sym (ap (λ x. checkAnswer (numbersOf x)) c.before.before.verdict3.given.1)
+returns-3 c = c.fault2.ensures ∙ sym (ap (λ x. check_answer (numbers_of x)) c.before.before.verdict3.given.1)
 
 returns-4 : tie.Need-returns-4
-returns-4 c = c.fault3.ensures ∙ sym (ap (λ x. checkAnswer (numbersOf x)) c.before.before.verdict4.given.1)
+returns-4 c = c.fault3.ensures ∙ sym (ap (λ x. check_answer (numbers_of x)) c.before.before.verdict4.given.1)
 
 returns-5 : tie.Need-returns-5
-returns-5 c = sym (ap (λ x. checkAnswer (numbersOf x)) c.before.verdict5.given.1)
+returns-5 c = sym (ap (λ x. check_answer (numbers_of x)) c.before.verdict5.given.1)
 
-pub check-answer-spec : {M : Type 1} → statement M
-check-answer-spec =
+pub check_answer_spec : {M : Type 1} → statement M
+check_answer_spec =
     tie.close
     (tie.spec
     enum-known-verdict

@@ -7,5 +7,5 @@ use Rattle.plain_answers.proofs.checks.fault.Tie as tie
 returns : tie.Need-returns
 returns c = refl
 
-pub fault-spec : {M : Type 1} → statement M
-fault-spec = tie.close (tie.spec returns)
+pub fault_spec : {M : Type 1} → statement M
+fault_spec = tie.close (tie.spec returns)

@@ -14,5 +14,5 @@ cycles-needed-requires c κs = search rules
 returns : tie.Need-returns
 returns c = ran c.before.before.before.args.run _ _ c.before.is-complete.ensures c.cycles-needed.ensures
 
-pub ran-spec : {M : Type 1} → statement M
-ran-spec = tie.close (tie.spec is-complete-requires cycles-needed-requires returns)
+pub ran_spec : {M : Type 1} → statement M
+ran_spec = tie.close (tie.spec is-complete-requires cycles-needed-requires returns)

@@ -1,8 +1,8 @@
 -- `plain_answers::checks::run_answer` meets its contract.
 -- Assumes nothing.
 use mathlib.Core.Path.{sym, ap, ◌∙◌}
-use Rattle.plan_run.specs.Numbers.{numbersOf}
-use Rattle.plain_answers.specs.Answers.{runAnswer}
+use Rattle.plan_run.specs.Numbers.{numbers_of}
+use Rattle.plain_answers.specs.Answers.{run_answer}
 use borrow.Author.Rules.{rules}
 use Rattle.plain_answers.proofs.checks.run_answer.Statement.{statement}
 use Rattle.plain_answers.proofs.checks.run_answer.Tie as tie
@@ -17,11 +17,11 @@ enum-known-answer-2 : tie.Need-enum-known-answer-2
 enum-known-answer-2 c = search rules
 
 returns : tie.Need-returns
-returns c = c.ran.ensures ∙ sym (ap (λ x. runAnswer (numbersOf x)) c.before.before.answer.given.1)
+returns c = c.ran.ensures ∙ sym (ap (λ x. run_answer (numbers_of x)) c.before.before.answer.given.1)
 
 returns-2 : tie.Need-returns-2
-returns-2 c = sym (ap (λ x. runAnswer (numbersOf x)) c.before.answer2.given.1)
+returns-2 c = sym (ap (λ x. run_answer (numbers_of x)) c.before.answer2.given.1)
 
-pub run-answer-spec : {M : Type 1} → statement M
-run-answer-spec =
+pub run_answer_spec : {M : Type 1} → statement M
+run_answer_spec =
     tie.close (tie.spec enum-known-answer ran-requires enum-known-answer-2 returns returns-2)

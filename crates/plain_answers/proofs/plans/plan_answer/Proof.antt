@@ -1,8 +1,8 @@
 -- `plain_answers::plans::plan_answer` meets its contract.
 -- Assumes nothing.
 use mathlib.Core.Path.{sym, ap}
-use Rattle.planner.specs.Numbers.{numbersOf}
-use Rattle.plain_answers.specs.Answers.{planAnswer}
+use Rattle.planner.specs.Numbers.{numbers_of}
+use Rattle.plain_answers.specs.Answers.{plan_answer}
 use borrow.Author.Rules.{rules}
 use Rattle.plain_answers.proofs.plans.plan_answer.Statement.{statement}
 use Rattle.plain_answers.proofs.plans.plan_answer.Tie as tie
@@ -14,10 +14,10 @@ enum-known-answer-2 : tie.Need-enum-known-answer-2
 enum-known-answer-2 c = search rules
 
 returns : tie.Need-returns
-returns c = sym (ap (λ x. planAnswer (numbersOf x)) c.before.answer.given.1)
+returns c = sym (ap (λ x. plan_answer (numbers_of x)) c.before.answer.given.1)
 
 returns-2 : tie.Need-returns-2
-returns-2 c = sym (ap (λ x. planAnswer (numbersOf x)) c.before.answer2.given.1)
+returns-2 c = sym (ap (λ x. plan_answer (numbers_of x)) c.before.answer2.given.1)
 
-pub plan-answer-spec : {M : Type 1} → statement M
-plan-answer-spec = tie.close (tie.spec enum-known-answer enum-known-answer-2 returns returns-2)
+pub plan_answer_spec : {M : Type 1} → statement M
+plan_answer_spec = tie.close (tie.spec enum-known-answer enum-known-answer-2 returns returns-2)

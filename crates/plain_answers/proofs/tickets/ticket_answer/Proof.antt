@@ -1,8 +1,8 @@
 -- `plain_answers::tickets::ticket_answer` meets its contract.
 -- Assumes nothing.
 use mathlib.Core.Path.{sym, ap}
-use Rattle.header.specs.Numbers.{numbersOf}
-use Rattle.plain_answers.specs.Answers.{ticketAnswer}
+use Rattle.header.specs.Numbers.{numbers_of}
+use Rattle.plain_answers.specs.Answers.{ticket_answer}
 use borrow.Author.Rules.{rules}
 use Rattle.plain_answers.proofs.tickets.ticket_answer.Statement.{statement}
 use Rattle.plain_answers.proofs.tickets.ticket_answer.Tie as tie
@@ -14,10 +14,10 @@ enum-known-answer-2 : tie.Need-enum-known-answer-2
 enum-known-answer-2 c = search rules
 
 returns : tie.Need-returns
-returns c = sym (ap (λ x. ticketAnswer (numbersOf x)) c.before.answer.given.1)
+returns c = sym (ap (λ x. ticket_answer (numbers_of x)) c.before.answer.given.1)
 
 returns-2 : tie.Need-returns-2
-returns-2 c = sym (ap (λ x. ticketAnswer (numbersOf x)) c.before.answer2.given.1)
+returns-2 c = sym (ap (λ x. ticket_answer (numbers_of x)) c.before.answer2.given.1)
 
-pub ticket-answer-spec : {M : Type 1} → statement M
-ticket-answer-spec = tie.close (tie.spec enum-known-answer enum-known-answer-2 returns returns-2)
+pub ticket_answer_spec : {M : Type 1} → statement M
+ticket_answer_spec = tie.close (tie.spec enum-known-answer enum-known-answer-2 returns returns-2)

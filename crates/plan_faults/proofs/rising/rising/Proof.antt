@@ -4,7 +4,7 @@ use borrow.Author.Rules.{rules}
 use Prim.Native.Nat.{◌-◌}
 use native.Mathlib.Omega.{arith}
 use Rattle.plan_faults.specs.Searches.{Rising}
-use Rattle.plan_faults.proofs.Rises.{rising-first, card-inside, rising-next, rising-ends, rising-all}
+use Rattle.plan_faults.proofs.Rises.{rising_first, card_inside, rising_next, rising_ends, rising_all}
 use Rattle.plan_faults.proofs.rising.rising.Statement.{statement}
 use Rattle.plan_faults.proofs.rising.rising.Tie as tie
 
@@ -15,7 +15,7 @@ abbrev decreases-loop : tie.decreases-loop
 decreases-loop cards plan from latest₀ n i₀ latest i = n - i
 
 loop-holds : tie.Need-loop-init invariant-loop decreases-loop
-loop-holds c = rising-first c.before.before.before.requires.1 c.before.before.before.requires.2
+loop-holds c = rising_first c.before.before.before.requires.1 c.before.before.before.requires.2
 
 shared-slice-read-card-index : tie.Need-shared-slice-read-card-index invariant-loop decreases-loop
 shared-slice-read-card-index c = search rules
@@ -32,18 +32,18 @@ shared-slice-read-cycle c = search rules
 mul-if1 : tie.Need-overflow-mul-if1 invariant-loop decreases-loop
 mul-if1 c =
     let inv = c.before.before.before.before.loop.invariant in
-    let card-is = c.before.card-index.ensures in
+    let card_is = c.before.card-index.ensures in
     let pre = c.before.before.before.before.before.before.before.before.requires in
     let inside = c.before.before.before.loop-test.true in
-    omega (arith, card-inside inv inside card-is pre.0)
+    omega (arith, card_inside inv inside card_is pre.0)
 
 slice-read-if1 : tie.Need-slice-read-if1 invariant-loop decreases-loop
 slice-read-if1 c =
-    let card-is = c.before.before.card-index.ensures in
+    let card_is = c.before.before.card-index.ensures in
     let pre = c.before.before.before.before.before.before.before.before.before.requires in
     let inv = c.before.before.before.before.before.loop.invariant in
     let inside = c.before.before.before.before.loop-test.true in
-    omega (arith, card-inside inv inside card-is pre.0, inv.so_far.long)
+    omega (arith, card_inside inv inside card_is pre.0, inv.so_far.long)
 
 same_length : tie.Need-same-length invariant-loop decreases-loop
 same_length c = search rules
@@ -51,23 +51,23 @@ same_length c = search rules
 returns : tie.Need-returns invariant-loop decreases-loop
 returns c =
     let inside = c.before.before.before.before.before.loop-test.true in
-    rising-ends c.before.before.before.before.before.before.loop.invariant inside c.before.before.before.card-index.ensures c.if1.true
+    rising_ends c.before.before.before.before.before.before.loop.invariant inside c.before.before.before.card-index.ensures c.if1.true
 
 mul-latest : tie.Need-overflow-mul-latest invariant-loop decreases-loop
 mul-latest c =
     let inv = c.before.before.before.before.before.before.loop.invariant in
-    let card-is = c.before.before.before.card-index.ensures in
+    let card_is = c.before.before.before.card-index.ensures in
     let pre = c.before.before.before.before.before.before.before.before.before.before.requires in
     let inside = c.before.before.before.before.before.loop-test.true in
-    omega (arith, card-inside inv inside card-is pre.0)
+    omega (arith, card_inside inv inside card_is pre.0)
 
 slice-write-latest : tie.Need-slice-write-latest invariant-loop decreases-loop
 slice-write-latest c =
-    let card-is = c.before.before.before.card-index.ensures in
+    let card_is = c.before.before.before.card-index.ensures in
     let pre = c.before.before.before.before.before.before.before.before.before.before.requires in
     let inv = c.before.before.before.before.before.before.loop.invariant in
     let inside = c.before.before.before.before.before.loop-test.true in
-    omega (arith, card-inside inv inside card-is pre.0, inv.so_far.long)
+    omega (arith, card_inside inv inside card_is pre.0, inv.so_far.long)
 
 add-i : tie.Need-overflow-add-i invariant-loop decreases-loop
 add-i c = search rules
@@ -78,19 +78,19 @@ loop-less c = search rules
 loop-again : tie.Need-loop-preserved invariant-loop decreases-loop
 loop-again c =
     let inv = c.before.before.before.before.before.before.loop.invariant in
-    let card-is = c.before.before.before.card-index.ensures in
+    let card_is = c.before.before.before.card-index.ensures in
     let pre = c.before.before.before.before.before.before.before.before.before.before.requires in
     let inside = c.before.before.before.before.before.loop-test.true in
-    rising-next inv inside card-is pre.0 c.if1.false
+    rising_next inv inside card_is pre.0 c.if1.false
 
 same-length-2 : tie.Need-same-length-2 invariant-loop decreases-loop
 same-length-2 c = search rules
 
 returns-2 : tie.Need-returns-2 invariant-loop decreases-loop
-returns-2 c = rising-all c.before.loop.invariant c.loop-test.false
+returns-2 c = rising_all c.before.loop.invariant c.loop-test.false
 
-pub rising-spec : {M : Type 1} → statement M
-rising-spec =
+pub rising_spec : {M : Type 1} → statement M
+rising_spec =
     tie.close
     (tie.spec
     invariant-loop

@@ -4,8 +4,8 @@ use borrow.Author.Rules.{rules}
 use Prim.Native.Nat.{◌-◌}
 use mathlib.Core.Path.{sym, ◌∙◌}
 use native.Mathlib.Omega.{arith}
-use Rattle.plan_faults.proofs.ClearFrames.{clear_first, clear-all}
-use Rattle.plan_faults.proofs.Rises.{Stopped, stopped, no-cycle-stops, shared-stops, clear-on, latest-on}
+use Rattle.plan_faults.proofs.ClearFrames.{clear_first, clear_all}
+use Rattle.plan_faults.proofs.Rises.{Stopped, stopped, no_cycle_stops, shared_stops, clear_on, latest_on}
 use Rattle.plan_faults.proofs.searched.clear.Statement.{statement}
 use Rattle.plan_faults.proofs.searched.clear.Tie as tie
 
@@ -35,7 +35,7 @@ returns c =
     let inv = c.before.before.before.loop.invariant in
     let pre = c.before.before.before.before.before.before.before.before.before.requires in
     let inside = c.before.before.loop-test.true in
-    no-cycle-stops inv pre.1 inside c.if1.true
+    no_cycle_stops inv pre.1 inside c.if1.true
 
 shared-requires : tie.Need-shared-requires invariant-loop decreases-loop
 shared-requires c κs = search rules
@@ -43,11 +43,11 @@ shared-requires c κs = search rules
 returns-2 : tie.Need-returns-2 invariant-loop decreases-loop
 returns-2 c =
     let inv = c.before.before.before.before.before.loop.invariant in
-    let has-cycle = c.before.before.if1.false in
+    let has_cycle = c.before.before.if1.false in
     let shared-is = c.before.shared.ensures in
     let few = c.before.before.before.before.before.before.before.before.before.before.before.requires.1 in
     let inside = c.before.before.before.before.loop-test.true in
-    shared-stops inv few inside has-cycle (sym shared-is ∙ c.if2.true)
+    shared_stops inv few inside has_cycle (sym shared-is ∙ c.if2.true)
 
 add-rising : tie.Need-overflow-add-rising invariant-loop decreases-loop
 add-rising c = search rules
@@ -59,7 +59,7 @@ rising-requires-2 : tie.Need-rising-requires-2 invariant-loop decreases-loop
 rising-requires-2 c κs =
     let pre = c.before.before.before.before.before.before.before.before.before.before.before.before.requires in
     let inside = c.before.before.before.before.before.loop-test.true in
-    (pre.0, omega (arith, inside, pre.1), latest-on c.before.before.before.before.before.before.loop.invariant pre.1 inside)
+    (pre.0, omega (arith, inside, pre.1), latest_on c.before.before.before.before.before.before.loop.invariant pre.1 inside)
 
 loop-less : tie.Need-loop-smaller invariant-loop decreases-loop
 loop-less c = search rules
@@ -70,10 +70,10 @@ loop-again c =
     let few = c.before.before.before.before.before.before.before.before.before.before.before.before.before.before.requires.1 in
     let inside = c.before.before.before.before.before.before.before.loop-test.true in
     let alone = sym c.before.before.before.before.shared.ensures ∙ c.before.before.before.if2.false in
-    stopped (clear-on inv few inside c.before.before.before.before.before.if1.false alone) c.before.rising2.ensures
+    stopped (clear_on inv few inside c.before.before.before.before.before.if1.false alone) c.before.rising2.ensures
 
 returns-3 : tie.Need-returns-3 invariant-loop decreases-loop
-returns-3 c = clear-all c.before.loop.invariant.clear c.loop-test.false
+returns-3 c = clear_all c.before.loop.invariant.clear c.loop-test.false
 
 pub clear_spec : {M : Type 1} → statement M
 clear_spec =

@@ -2,7 +2,7 @@
 -- Assumes nothing.
 use borrow.Author.Rules.{rules}
 use Prim.Native.Nat.{◌-◌}
-use Rattle.plan_faults.proofs.Sharing.{Apart, apart-first, apart-cycle, apart-card, not-shared, is_shared}
+use Rattle.plan_faults.proofs.Sharing.{Apart, apart_first, apart_cycle, apart_card, not_shared, is_shared}
 use Rattle.plan_faults.proofs.searched.shared.Statement.{statement}
 use Rattle.plan_faults.proofs.searched.shared.Tie as tie
 
@@ -22,7 +22,7 @@ shared-slice-read-cycle : tie.Need-shared-slice-read-cycle invariant-loop decrea
 shared-slice-read-cycle c = search rules
 
 loop-holds : tie.Need-loop-init invariant-loop decreases-loop
-loop-holds c = apart-first _ _ _
+loop-holds c = apart_first _ _ _
 
 add-j : tie.Need-overflow-add-j invariant-loop decreases-loop
 add-j c = search rules
@@ -50,7 +50,7 @@ loop-again : tie.Need-loop-preserved invariant-loop decreases-loop
 loop-again c =
     let inv = c.before.before.before.before.before.loop.invariant in
     let inside = c.before.before.before.before.loop-test.true in
-    apart-card inv inside c.if2.false
+    apart_card inv inside c.if2.false
 
 loop-less-2 : tie.Need-loop-smaller-2 invariant-loop decreases-loop
 loop-less-2 c = search rules
@@ -59,13 +59,13 @@ loop-again-2 : tie.Need-loop-preserved-2 invariant-loop decreases-loop
 loop-again-2 c =
     let inv = c.before.before.before.loop.invariant in
     let inside = c.before.before.loop-test.true in
-    apart-cycle inv inside c.if1.false
+    apart_cycle inv inside c.if1.false
 
 returns-2 : tie.Need-returns-2 invariant-loop decreases-loop
-returns-2 c = not-shared c.before.loop.invariant c.loop-test.false
+returns-2 c = not_shared c.before.loop.invariant c.loop-test.false
 
-pub shared-spec : {M : Type 1} → statement M
-shared-spec =
+pub shared_spec : {M : Type 1} → statement M
+shared_spec =
     tie.close
     (tie.spec
     invariant-loop

@@ -1,7 +1,7 @@
 -- `plan_run::chain::all_cycles` meets its contract.
 -- Assumes nothing.
 use native.Mathlib.Omega.{arith}
-use Rattle.plan_run.proofs.Chains.{small-plan, unlinked}
+use Rattle.plan_run.proofs.Chains.{small_plan, unlinked}
 use borrow.Author.Rules.{rules}
 use Rattle.plan_run.proofs.chain.all_cycles.Statement.{statement}
 use Rattle.plan_run.proofs.chain.all_cycles.Tie as tie
@@ -24,7 +24,7 @@ slice-aggregate-link-2 c = search rules
 link-requires : tie.Need-link-requires
 link-requires c κs =
     let pre = c.before.before.before.before.before.before.requires in
-    (small-plan _ pre.0 pre.1 (omega (arith, c.before.before.if1.false)), unlinked)
+    (small_plan _ pre.0 pre.1 (omega (arith, c.before.before.if1.false)), unlinked)
 
 slice-aggregate-linked-to : tie.Need-slice-aggregate-linked-to
 slice-aggregate-linked-to c = search rules
@@ -37,7 +37,7 @@ linked-to-requires c κs =
     let pre = c.before.before.before.before.before.before.before.before.before.before.before.before.requires in
     let low = c.before.before.before.before.before.before.before.before.if1.false in
     let linked = c.before.before.before.before.before.link.ensures in
-    (omega (arith, low), small-plan _ pre.0 pre.1 (omega (arith, low)), linked)
+    (omega (arith, low), small_plan _ pre.0 pre.1 (omega (arith, low)), linked)
 
 same-length-2 : tie.Need-same-length-2
 same-length-2 c = search rules
@@ -45,8 +45,8 @@ same-length-2 c = search rules
 returns-2 : tie.Need-returns-2
 returns-2 c = c.before.before.Linked-to.ensures
 
-pub all-cycles-spec : {M : Type 1} → statement M
-all-cycles-spec =
+pub all_cycles_spec : {M : Type 1} → statement M
+all_cycles_spec =
     tie.close
     (tie.spec
     cycles-to-requires

@@ -6,7 +6,7 @@ use Prim.Native.Nat.{◌-◌, ◌≤◌}
 use mathlib.Core.Path.{◌≡◌, refl}
 use lib.ListN.{length}
 use Rattle.plan_run.specs.Cycles.{CyclesMade}
-use Rattle.plan_run.proofs.Cycles.{cycle-ends, cycles-none, cycles-next}
+use Rattle.plan_run.proofs.Cycles.{cycle_ends, cycles_none, cycles_next}
 use Rattle.plan_run.proofs.chain.linked_to.Statement.{statement}
 use Rattle.plan_run.proofs.chain.linked_to.Tie as tie
 
@@ -18,7 +18,7 @@ abbrev decreases-loop : tie.decreases-loop
 decreases-loop plan first after memory₀ end q₀ t₀ memory q t = end - t
 
 loop-holds : tie.Need-loop-init invariant-loop decreases-loop
-loop-holds c = (omega arith, refl, cycles-none)
+loop-holds c = (omega arith, refl, cycles_none)
 
 add-t : tie.Need-overflow-add-t invariant-loop decreases-loop
 add-t c = search rules
@@ -38,8 +38,8 @@ loop-again c =
     let loop = c.before.before.before.before.before.before.before.before.before in
     let few = loop.before.before.before.before.before.requires.0 in
     let reads = c.before.before.before.before.before.before.reads.ensures in
-    let ends = cycle-ends (omega arith) (omega (arith, low, few)) reads c.before.before.track.ensures in
-    (omega (arith, low), search rules, cycles-next loop.loop.invariant.2 ends)
+    let ends = cycle_ends (omega arith) (omega (arith, low, few)) reads c.before.before.track.ensures in
+    (omega (arith, low), search rules, cycles_next loop.loop.invariant.2 ends)
 
 same_length : tie.Need-same-length invariant-loop decreases-loop
 same_length c = c.before.loop.invariant.1
@@ -50,8 +50,8 @@ returns c =
     let e : l.t ≡ c.before.before.before.before.before.before.args.last.0 = omega (arith, l.invariant.0) in
     rw e at l.invariant.2
 
-pub linked-to-spec : {M : Type 1} → statement M
-linked-to-spec =
+pub linked_to_spec : {M : Type 1} → statement M
+linked_to_spec =
     tie.close
     (tie.spec
     invariant-loop

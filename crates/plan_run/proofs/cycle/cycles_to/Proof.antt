@@ -21,7 +21,7 @@ next-cycle-requires : tie.Need-next-cycle-requires invariant-loop decreases-loop
 next-cycle-requires c κs = search rules
 
 loop-holds : tie.Need-loop-init invariant-loop decreases-loop
-loop-holds c = (omega arith, refl, c.next-cycle.ensures, cycles.cycles-none)
+loop-holds c = (omega arith, refl, c.next_cycle.ensures, cycles.cycles_none)
 
 add-t : tie.Need-overflow-add-t invariant-loop decreases-loop
 add-t c = search rules
@@ -30,12 +30,12 @@ one-cycle-requires : tie.Need-one-cycle-requires invariant-loop decreases-loop
 one-cycle-requires c κs =
     let l = c.before.before.loop in
     let few = c.before.before.before.before.before.before.requires in
-    (omega arith, few, cycles.next-asked l.invariant.2)
+    (omega arith, few, cycles.next_asked l.invariant.2)
 
 next-after-requires : tie.Need-next-after-requires invariant-loop decreases-loop
 next-after-requires c κs =
     let l = c.before.before.before.before.before.loop in
-    cycles.next-asked l.invariant.2
+    cycles.next_asked l.invariant.2
 
 loop-less : tie.Need-loop-smaller invariant-loop decreases-loop
 loop-less c = search rules
@@ -43,7 +43,7 @@ loop-less c = search rules
 loop-again : tie.Need-loop-preserved invariant-loop decreases-loop
 loop-again c =
     let l = c.before.before.before.before.before.before.loop in
-    (omega arith, search rules, c.next-after.ensures, cycles.cycles-next l.invariant.3 c.before.before.before.one-cycle.ensures)
+    (omega arith, search rules, c.next-after.ensures, cycles.cycles_next l.invariant.3 c.before.before.before.one-cycle.ensures)
 
 same_length : tie.Need-same-length invariant-loop decreases-loop
 same_length c = c.before.loop.invariant.1
@@ -54,8 +54,8 @@ returns c =
     let e : l.t ≡ c.before.before.before.before.before.args.last.0 = omega (arith, l.invariant.0) in
     rw e at l.invariant.3
 
-pub cycles-to-spec : {M : Type 1} → statement M
-cycles-to-spec =
+pub cycles_to_spec : {M : Type 1} → statement M
+cycles_to_spec =
     tie.close
     (tie.spec
     invariant-loop

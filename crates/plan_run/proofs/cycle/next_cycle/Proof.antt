@@ -4,14 +4,14 @@ use Prim.Native.Nat.{◌≤◌, ◌<◌, ◌-◌}
 use mathlib.Core.Path.{◌≡◌}
 use native.Mathlib.Omega.{arith}
 use lib.ListN.{length}
-use Rattle.plan_run.specs.Cycles.{lastCycle, NoneBetween}
-use Rattle.plan_run.proofs.Cycles.{none-between-next}
+use Rattle.plan_run.specs.Cycles.{last_cycle, NoneBetween}
+use Rattle.plan_run.proofs.Cycles.{none_between_next}
 use borrow.Author.Rules.{rules}
 use Rattle.plan_run.proofs.cycle.next_cycle.Statement.{statement}
 use Rattle.plan_run.proofs.cycle.next_cycle.Tie as tie
 
 abbrev invariant-loop : tie.invariant-loop
-invariant-loop plan t next₀ i₀ next i = (i ≤ length plan) × NoneBetween plan i t.0 next.0 × (t.0 < lastCycle → t.0 < next.0)
+invariant-loop plan t next₀ i₀ next i = (i ≤ length plan) × NoneBetween plan i t.0 next.0 × (t.0 < last_cycle → t.0 < next.0)
 
 abbrev decreases-loop : tie.decreases-loop
 decreases-loop plan t next₀ i₀ next i = length plan - i
@@ -39,7 +39,7 @@ loop-again c =
     let inv = c.before.before.before.loop.invariant in
     let plan = c.before.before.before.before.before.args.plan.now in
     let sooner = c.sooner.ensures in
-    (omega arith, none-between-next plan _ _ _ _ inv.1 sooner.0 sooner.1, λ k. sooner.2 (inv.2 k))
+    (omega arith, none_between_next plan _ _ _ _ inv.1 sooner.0 sooner.1, λ k. sooner.2 (inv.2 k))
 
 returns : tie.Need-returns invariant-loop decreases-loop
 returns c =
@@ -47,8 +47,8 @@ returns c =
     let e : l.i ≡ length c.before.before.before.args.plan.now = omega arith in
     record { none_between = rw e at l.invariant.1; after = l.invariant.2 }
 
-pub next-cycle-spec : {M : Type 1} → statement M
-next-cycle-spec =
+pub next_cycle_spec : {M : Type 1} → statement M
+next_cycle_spec =
     tie.close
     (tie.spec
     invariant-loop

@@ -15,8 +15,8 @@ same_length c = search rules
 returns : tie.Need-returns
 returns c =
     let pre = c.before.before.before.before.before.before.before.before.before.requires in
-    let none = cycles.reads-of-none pre.0 pre.2 (omega (arith, c.before.before.before.before.if1.true)) in
-    cycles.cycle-ends pre.0 (omega arith) none c.before.before.track.ensures
+    let none = cycles.reads_of_none pre.0 pre.2 (omega (arith, c.before.before.before.before.if1.true)) in
+    cycles.cycle_ends pre.0 (omega arith) none c.before.before.track.ensures
 
 reads-requires : tie.Need-reads-requires
 reads-requires c κs = let pre = c.before.before.before.before.before.before.requires in (pre.0, pre.1)
@@ -31,10 +31,10 @@ returns-2 : tie.Need-returns-2
 returns-2 c =
     let pre = c.before.before.before.before.before.before.before.before.before.before.before.before.before.requires in
     let reads_made = c.before.before.before.before.before.before.reads.ensures in
-    cycles.cycle-ends pre.0 (omega arith) reads_made c.before.before.track2.ensures
+    cycles.cycle_ends pre.0 (omega arith) reads_made c.before.before.track2.ensures
 
-pub one-cycle-spec : {M : Type 1} → statement M
-one-cycle-spec =
+pub one_cycle_spec : {M : Type 1} → statement M
+one_cycle_spec =
     tie.close
     (tie.spec
     track-requires

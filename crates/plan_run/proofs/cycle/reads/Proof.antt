@@ -44,13 +44,13 @@ loop-again c =
     let inv = c.before.before.before.before.before.before.before.before.loop.invariant in
     let same = c.before.before.before.before.before.if1.true in
     let position = c.before.before.before.before.position.ensures in
-    (omega arith, search rules, cycles.reads-next inv.2 (omega arith) (omega (arith, same)) position c.before.before.track.ensures)
+    (omega arith, search rules, cycles.reads_next inv.2 (omega arith) (omega (arith, same)) position c.before.before.track.ensures)
 
 loop-less-2 : tie.Need-loop-smaller-2 invariant-loop decreases-loop
 loop-less-2 c = search rules
 
 loop-again-2 : tie.Need-loop-preserved-2 invariant-loop decreases-loop
-loop-again-2 c = let l = c.before.before.before.loop in (omega arith, l.invariant.1, cycles.reads-skip l.invariant.2 (λ e. omega (arith, c.if1.false)))
+loop-again-2 c = let l = c.before.before.before.loop in (omega arith, l.invariant.1, cycles.reads_skip l.invariant.2 (λ e. omega (arith, c.if1.false)))
 
 same_length : tie.Need-same-length invariant-loop decreases-loop
 same_length c = c.before.loop.invariant.1
@@ -58,8 +58,8 @@ same_length c = c.before.loop.invariant.1
 returns : tie.Need-returns invariant-loop decreases-loop
 returns c = let e : c.before.loop.i ≡ length c.before.before.before.before.args.plan.now = omega arith in rw (← e) c.before.loop.invariant.2
 
-pub reads-spec : {M : Type 1} → statement M
-reads-spec =
+pub reads_spec : {M : Type 1} → statement M
+reads_spec =
     tie.close
     (tie.spec
     invariant-loop

@@ -1,7 +1,7 @@
 -- `pool_counts::backlog::backlog` meets its contract.
 -- Assumes nothing.
 use borrow.Author.Rules.{rules}
-use Rattle.pool_counts.proofs.Frames.{compared-save, compared-read, front_long, front-few, rule-counted}
+use Rattle.pool_counts.proofs.Frames.{compared_save, compared_read, front_long, front_few, rule_counted}
 use Rattle.pool_counts.proofs.backlog.backlog.Statement.{statement}
 use Rattle.pool_counts.proofs.backlog.backlog.Tie as tie
 
@@ -18,14 +18,14 @@ count-up-to-requires : tie.Need-count-up-to-requires
 count-up-to-requires c κs =
     let args = c.before.before.before.before.args in
     let pre = c.before.before.before.before.requires in
-    front-few args.plan.now args.i _ pre.1
+    front_few args.plan.now args.i _ pre.1
 
 returns : tie.Need-returns
 returns c =
     let args = c.before.before.before.before.before.args in
     let pre = c.before.before.before.before.before.requires in
-    let rule = compared-save args.save args.plan.now args.i c.before.before.if1.true in
-    rule-counted args.save args.m args.plan.now args.i pre.0 _ rule c.count-up-to.ensures
+    let rule = compared_save args.save args.plan.now args.i c.before.before.if1.true in
+    rule_counted args.save args.m args.plan.now args.i pre.0 _ rule c.count-up-to.ensures
 
 add-count-up-to : tie.Need-overflow-add-count-up-to
 add-count-up-to c = search rules
@@ -49,11 +49,11 @@ returns-2 : tie.Need-returns-2
 returns-2 c =
     let args = c.before.before.before.before.before.args in
     let pre = c.before.before.before.before.before.requires in
-    let rule = compared-read args.save args.plan.now args.i c.before.before.if1.false in
-    rule-counted args.save args.m args.plan.now args.i pre.0 _ rule c.count-up-to2.ensures
+    let rule = compared_read args.save args.plan.now args.i c.before.before.if1.false in
+    rule_counted args.save args.m args.plan.now args.i pre.0 _ rule c.count-up-to2.ensures
 
-pub backlog-spec : {M : Type 1} → statement M
-backlog-spec =
+pub backlog_spec : {M : Type 1} → statement M
+backlog_spec =
     tie.close
     (tie.spec
     mul-t6

@@ -5,7 +5,7 @@ use Prim.Native.Nat.{suc, ◌-◌}
 use mathlib.Core.Path.{sym, ◌∙◌}
 use native.Mathlib.Omega.{arith}
 use Rattle.pool_counts.specs.Looking.{Looking}
-use Rattle.pool_counts.proofs.Counting.{looking-first, looking-few, looking-counts, looking-skips, counted-all}
+use Rattle.pool_counts.proofs.Counting.{looking_first, looking_few, looking_counts, looking_skips, counted_all}
 use Rattle.pool_counts.proofs.backlog.count_all.Statement.{statement}
 use Rattle.pool_counts.proofs.backlog.count_all.Tie as tie
 
@@ -16,7 +16,7 @@ abbrev decreases-loop : tie.decreases-loop
 decreases-loop save others n cycle count₀ k₀ count k = n - k
 
 loop-holds : tie.Need-loop-init invariant-loop decreases-loop
-loop-holds c = looking-first _ _ _ _
+loop-holds c = looking_first _ _ _ _
 
 mul-c : tie.Need-overflow-mul-c invariant-loop decreases-loop
 mul-c c = search rules
@@ -34,7 +34,7 @@ add-count : tie.Need-overflow-add-count invariant-loop decreases-loop
 add-count c =
     let inv = c.before.before.before.before.loop.invariant in
     let few = c.before.before.before.before.before.before.requires in
-    omega (arith, looking-few _ _ _ _ inv, few)
+    omega (arith, looking_few _ _ _ _ inv, few)
 
 loop-less : tie.Need-loop-smaller invariant-loop decreases-loop
 loop-less c = search rules
@@ -43,7 +43,7 @@ loop-again : tie.Need-loop-preserved invariant-loop decreases-loop
 loop-again c =
     let inv = c.before.before.before.before.loop.invariant in
     let inside = c.before.before.before.loop-test.true in
-    looking-counts _ _ _ _ inv (omega (arith, looking-few _ _ _ _ inv)) inside (sym c.before.counts.ensures ∙ c.if1.true)
+    looking_counts _ _ _ _ inv (omega (arith, looking_few _ _ _ _ inv)) inside (sym c.before.counts.ensures ∙ c.if1.true)
 
 loop-less-2 : tie.Need-loop-smaller-2 invariant-loop decreases-loop
 loop-less-2 c = search rules
@@ -52,13 +52,13 @@ loop-again-2 : tie.Need-loop-preserved-2 invariant-loop decreases-loop
 loop-again-2 c =
     let inv = c.before.before.before.before.loop.invariant in
     let inside = c.before.before.before.loop-test.true in
-    looking-skips _ _ _ _ inv (omega (arith, looking-few _ _ _ _ inv)) inside (sym c.before.counts.ensures ∙ c.if1.false)
+    looking_skips _ _ _ _ inv (omega (arith, looking_few _ _ _ _ inv)) inside (sym c.before.counts.ensures ∙ c.if1.false)
 
 returns : tie.Need-returns invariant-loop decreases-loop
-returns c = counted-all _ _ _ c.before.loop.invariant c.loop-test.false
+returns c = counted_all _ _ _ c.before.loop.invariant c.loop-test.false
 
-pub count-all-spec : {M : Type 1} → statement M
-count-all-spec =
+pub count_all_spec : {M : Type 1} → statement M
+count_all_spec =
     tie.close
     (tie.spec
     invariant-loop

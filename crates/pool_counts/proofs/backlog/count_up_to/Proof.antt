@@ -5,7 +5,7 @@ use Prim.Native.Nat.{◌-◌}
 use mathlib.Core.Path.{sym, ◌∙◌}
 use native.Mathlib.Omega.{arith}
 use Rattle.pool_counts.specs.Looking.{Looking}
-use Rattle.pool_counts.proofs.Counting.{looking-few, looking-counts, looking-skips, found-m, looked-all}
+use Rattle.pool_counts.proofs.Counting.{looking_few, looking_counts, looking_skips, found_m, looked_all}
 use Rattle.pool_counts.proofs.backlog.count_up_to.Statement.{statement}
 use Rattle.pool_counts.proofs.backlog.count_up_to.Tie as tie
 
@@ -30,7 +30,7 @@ cast-t12 c = search rules
 returns : tie.Need-returns invariant-loop decreases-loop
 returns c =
     let inv = c.before.before.loop.invariant in
-    found-m _ _ _ _ inv c.if1.true
+    found_m _ _ _ _ inv c.if1.true
 
 mul-c : tie.Need-overflow-mul-c invariant-loop decreases-loop
 mul-c c = search rules
@@ -48,7 +48,7 @@ add-count : tie.Need-overflow-add-count invariant-loop decreases-loop
 add-count c =
     let inv = c.before.before.before.before.before.loop.invariant in
     let few = c.before.before.before.before.before.before.before.before.before.requires in
-    omega (arith, looking-few _ _ _ _ inv, few)
+    omega (arith, looking_few _ _ _ _ inv, few)
 
 loop-less : tie.Need-loop-smaller invariant-loop decreases-loop
 loop-less c = search rules
@@ -57,7 +57,7 @@ loop-again : tie.Need-loop-preserved invariant-loop decreases-loop
 loop-again c =
     let inv = c.before.before.before.before.before.loop.invariant in
     let inside = c.before.before.before.before.loop-test.true in
-    looking-counts _ _ _ _ inv c.before.before.before.if1.false inside (sym c.before.counts.ensures ∙ c.if2.true)
+    looking_counts _ _ _ _ inv c.before.before.before.if1.false inside (sym c.before.counts.ensures ∙ c.if2.true)
 
 loop-less-2 : tie.Need-loop-smaller-2 invariant-loop decreases-loop
 loop-less-2 c = search rules
@@ -66,16 +66,16 @@ loop-again-2 : tie.Need-loop-preserved-2 invariant-loop decreases-loop
 loop-again-2 c =
     let inv = c.before.before.before.before.before.loop.invariant in
     let inside = c.before.before.before.before.loop-test.true in
-    looking-skips _ _ _ _ inv c.before.before.before.if1.false inside (sym c.before.counts.ensures ∙ c.if2.false)
+    looking_skips _ _ _ _ inv c.before.before.before.if1.false inside (sym c.before.counts.ensures ∙ c.if2.false)
 
 cast-t17 : tie.Need-overflow-cast-t17 invariant-loop decreases-loop
 cast-t17 c = search rules
 
 returns-2 : tie.Need-returns-2 invariant-loop decreases-loop
-returns-2 c = looked-all _ _ _ _ c.before.loop.invariant c.loop-test.false
+returns-2 c = looked_all _ _ _ _ c.before.loop.invariant c.loop-test.false
 
-pub count-up-to-spec : {M : Type 1} → statement M
-count-up-to-spec =
+pub count_up_to_spec : {M : Type 1} → statement M
+count_up_to_spec =
     tie.close
     (tie.spec
     invariant-loop

@@ -10,5 +10,5 @@ returns c = rw c.if1.true refl
 returns-2 : tie.Need-returns-2
 returns-2 c = rw c.if1.false refl
 
-pub counts-spec : {M : Type 1} → statement M
-counts-spec = tie.close (tie.spec returns returns-2)
+pub counts_spec : {M : Type 1} → statement M
+counts_spec = tie.close (tie.spec returns returns-2)

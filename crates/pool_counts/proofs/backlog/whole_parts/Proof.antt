@@ -4,7 +4,7 @@ use borrow.Author.Rules.{rules}
 use Prim.Native.Nat.{◌-◌}
 use native.Mathlib.Omega.{arith}
 use Rattle.pool_counts.specs.Looking.{Looking}
-use Rattle.pool_counts.proofs.Counting.{looking-first, part-few, looking-part}
+use Rattle.pool_counts.proofs.Counting.{looking_first, part_few, looking_part}
 use Rattle.pool_counts.proofs.backlog.whole_parts.Statement.{statement}
 use Rattle.pool_counts.proofs.backlog.whole_parts.Tie as tie
 
@@ -15,7 +15,7 @@ abbrev decreases-loop : tie.decreases-loop
 decreases-loop save own others m n count₀ k₀ count k = n - k
 
 loop-holds : tie.Need-loop-init invariant-loop decreases-loop
-loop-holds c = looking-first _ _ _ _
+loop-holds c = looking_first _ _ _ _
 
 part-end-requires : tie.Need-part-end-requires invariant-loop decreases-loop
 part-end-requires c κs = search rules
@@ -40,7 +40,7 @@ add-if1 c =
     let inv = c.before.before.before.before.loop.invariant in
     let end_is = c.before.before.part-end.ensures in
     let few = c.before.before.before.before.before.before.requires in
-    omega (arith, part-few _ _ _ _ inv _ _ (omega (arith, end_is)) end_is.1 c.count-all.ensures, few)
+    omega (arith, part_few _ _ _ _ inv _ _ (omega (arith, end_is)) end_is.1 c.count-all.ensures, few)
 
 cast-t17 : tie.Need-overflow-cast-t17 invariant-loop decreases-loop
 cast-t17 c = search rules
@@ -58,7 +58,7 @@ loop-again : tie.Need-loop-preserved invariant-loop decreases-loop
 loop-again c =
     let inv = c.before.before.before.before.before.loop.invariant in
     let end_is = c.before.before.before.part-end.ensures in
-    looking-part _ _ _ _ inv _ _ (omega (arith, end_is)) end_is.1 c.before.count-all.ensures c.if1.false
+    looking_part _ _ _ _ inv _ _ (omega (arith, end_is)) end_is.1 c.before.count-all.ensures c.if1.false
 
 cast-t18 : tie.Need-overflow-cast-t18 invariant-loop decreases-loop
 cast-t18 c = search rules
@@ -66,8 +66,8 @@ cast-t18 c = search rules
 returns-2 : tie.Need-returns-2 invariant-loop decreases-loop
 returns-2 c = search rules
 
-pub whole-parts-spec : {M : Type 1} → statement M
-whole-parts-spec =
+pub whole_parts_spec : {M : Type 1} → statement M
+whole_parts_spec =
     tie.close
     (tie.spec
     invariant-loop

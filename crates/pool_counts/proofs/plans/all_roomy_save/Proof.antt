@@ -2,19 +2,19 @@
 -- Assumes nothing.
 use borrow.Author.Rules.{rules}
 use native.Mathlib.Omega.{arith}
-use Rattle.pool_counts.specs.Pools.{pastAll}
-use Rattle.pool_counts.proofs.Frames.{SaveTurn, save-first, save-behind, save-covers, not-all-roomy, all-roomy}
+use Rattle.pool_counts.specs.Pools.{past_all}
+use Rattle.pool_counts.proofs.Frames.{SaveTurn, save_first, save_behind, save_covers, not_all_roomy, all_roomy}
 use Rattle.pool_counts.proofs.plans.all_roomy_save.Statement.{statement}
 use Rattle.pool_counts.proofs.plans.all_roomy_save.Tie as tie
 
 abbrev invariant-loop : tie.invariant-loop
-invariant-loop plan m floor₀ i₀ floor i = SaveTurn pastAll m plan i floor
+invariant-loop plan m floor₀ i₀ floor i = SaveTurn past_all m plan i floor
 
 abbrev decreases-loop : tie.decreases-loop
 decreases-loop plan m floor₀ i₀ floor i = i
 
 loop-holds : tie.Need-loop-init invariant-loop decreases-loop
-loop-holds c = save-first _ _ _
+loop-holds c = save_first _ _ _
 
 sub-i : tie.Need-overflow-sub-i invariant-loop decreases-loop
 sub-i c = search rules
@@ -37,7 +37,7 @@ returns c =
     let place_is = c.before.before.before.before.place.ensures in
     let counted = c.before.before.backlog.ensures in
     let some_left = c.before.before.before.before.before.before.loop-test.true in
-    not-all-roomy inv some_left place_is.0 (omega (arith, counted.0, c.if2.true))
+    not_all_roomy inv some_left place_is.0 (omega (arith, counted.0, c.if2.true))
 
 loop-less : tie.Need-loop-smaller invariant-loop decreases-loop
 loop-less c = search rules
@@ -49,7 +49,7 @@ loop-again c =
     let all = c.before.before.before.if1.true in
     let counted = c.before.before.backlog.ensures in
     let some_left = c.before.before.before.before.before.before.loop-test.true in
-    save-behind inv some_left place_is.0 all (omega (arith, counted.0, c.if2.false))
+    save_behind inv some_left place_is.0 all (omega (arith, counted.0, c.if2.false))
 
 loop-less-2 : tie.Need-loop-smaller-2 invariant-loop decreases-loop
 loop-less-2 c = search rules
@@ -57,13 +57,13 @@ loop-less-2 c = search rules
 loop-again-2 : tie.Need-loop-preserved-2 invariant-loop decreases-loop
 loop-again-2 c =
     let some_left = c.before.before.before.loop-test.true in
-    save-covers c.before.before.before.before.loop.invariant some_left c.before.place.ensures.0 c.before.place.ensures.1 c.if1.false
+    save_covers c.before.before.before.before.loop.invariant some_left c.before.place.ensures.0 c.before.place.ensures.1 c.if1.false
 
 returns-2 : tie.Need-returns-2 invariant-loop decreases-loop
-returns-2 c = all-roomy c.before.loop.invariant c.loop-test.false
+returns-2 c = all_roomy c.before.loop.invariant c.loop-test.false
 
-pub all-roomy-save-spec : {M : Type 1} → statement M
-all-roomy-save-spec =
+pub all_roomy_save_spec : {M : Type 1} → statement M
+all_roomy_save_spec =
     tie.close
     (tie.spec
     invariant-loop

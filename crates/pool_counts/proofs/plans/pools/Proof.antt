@@ -1,7 +1,7 @@
 -- `pool_counts::plans::pools` meets its contract.
 -- Assumes nothing.
 use borrow.Author.Rules.{rules}
-use Rattle.pool_counts.proofs.Whole.{of-save, of-read}
+use Rattle.pool_counts.proofs.Whole.{of_save, of_read}
 use Rattle.pool_counts.proofs.plans.pools.Statement.{statement}
 use Rattle.pool_counts.proofs.plans.pools.Tie as tie
 
@@ -11,7 +11,7 @@ roomy-save-requires c κs = search rules
 returns : tie.Need-returns
 returns c =
     let args = c.before.before.before.args in
-    of-save args.save args.m args.plan.now c.before.if1.true c.roomy-save.ensures
+    of_save args.save args.m args.plan.now c.before.if1.true c.roomy-save.ensures
 
 roomy-read-requires : tie.Need-roomy-read-requires
 roomy-read-requires c κs = search rules
@@ -19,7 +19,7 @@ roomy-read-requires c κs = search rules
 returns-2 : tie.Need-returns-2
 returns-2 c =
     let args = c.before.before.before.args in
-    of-read args.save args.m args.plan.now c.before.if1.false c.roomy-read.ensures
+    of_read args.save args.m args.plan.now c.before.if1.false c.roomy-read.ensures
 
-pub pools-spec : {M : Type 1} → statement M
-pools-spec = tie.close (tie.spec roomy-save-requires returns roomy-read-requires returns-2)
+pub pools_spec : {M : Type 1} → statement M
+pools_spec = tie.close (tie.spec roomy-save-requires returns roomy-read-requires returns-2)

@@ -3,7 +3,7 @@
 use borrow.Author.Rules.{rules}
 use Prim.Native.Nat.{◌-◌}
 use native.Mathlib.Omega.{arith}
-use Rattle.pool_counts.proofs.Frames.{roomy-ends, ReadTurn, read_first, read-ahead, read-covered, read_all}
+use Rattle.pool_counts.proofs.Frames.{roomy_ends, ReadTurn, read_first, read_ahead, read_covered, read_all}
 use Rattle.pool_counts.proofs.plans.roomy_read.Statement.{statement}
 use Rattle.pool_counts.proofs.plans.roomy_read.Tie as tie
 
@@ -36,7 +36,7 @@ returns c =
     let inv = c.before.before.before.before.before.before.before.loop.invariant in
     let counted = c.before.before.backlog.ensures in
     let inside = c.before.before.before.before.before.before.loop-test.true in
-    (roomy-ends inv.roomy inside (omega (arith, counted.0, c.if2.true)), inv.so_far)
+    (roomy_ends inv.roomy inside (omega (arith, counted.0, c.if2.true)), inv.so_far)
 
 add-ceiling : tie.Need-overflow-add-ceiling invariant-loop decreases-loop
 add-ceiling c = search rules
@@ -58,7 +58,7 @@ loop-again c =
     let inside = c.before.before.before.before.before.before.before.before.loop-test.true in
     let counted = c.before.before.before.before.backlog.ensures.0 in
     let room = c.before.before.if2.false in
-    read-ahead inv inside place_is.0 ahead (omega (arith, counted, room)) (omega (arith, c.larger.ensures, counted, room))
+    read_ahead inv inside place_is.0 ahead (omega (arith, counted, room)) (omega (arith, c.larger.ensures, counted, room))
 
 loop-less-2 : tie.Need-loop-smaller-2 invariant-loop decreases-loop
 loop-less-2 c = search rules
@@ -68,13 +68,13 @@ loop-again-2 c =
     let inv = c.before.before.before.before.loop.invariant in
     let inside = c.before.before.before.loop-test.true in
     let place_is = c.before.place.ensures in
-    read-covered inv inside place_is.0 c.if1.false
+    read_covered inv inside place_is.0 c.if1.false
 
 returns-2 : tie.Need-returns-2 invariant-loop decreases-loop
 returns-2 c = read_all c.before.loop.invariant c.loop-test.false
 
-pub roomy-read-spec : {M : Type 1} → statement M
-roomy-read-spec =
+pub roomy_read_spec : {M : Type 1} → statement M
+roomy_read_spec =
     tie.close
     (tie.spec
     invariant-loop

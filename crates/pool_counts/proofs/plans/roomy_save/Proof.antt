@@ -5,7 +5,7 @@ use Prim.Native.Nat.{◌-◌}
 use mathlib.Core.Path.{sym, ◌∙◌}
 use mathlib.Core.Bool.{true}
 use native.Mathlib.Omega.{arith}
-use Rattle.pool_counts.proofs.Frames.{Roomy, roomy-first, roomy-next, roomy-ends, roomy-all, all-have-room}
+use Rattle.pool_counts.proofs.Frames.{Roomy, roomy_first, roomy_next, roomy_ends, roomy_all, all_have_room}
 use Rattle.pool_counts.proofs.plans.roomy_save.Statement.{statement}
 use Rattle.pool_counts.proofs.plans.roomy_save.Tie as tie
 
@@ -21,10 +21,10 @@ all-roomy-save-requires c κs = search rules
 returns : tie.Need-returns invariant-loop decreases-loop
 returns c =
     let args = c.before.before.before.args in
-    all-have-room args.m args.plan.now (sym c.before.all-roomy-save.ensures ∙ c.if1.true)
+    all_have_room args.m args.plan.now (sym c.before.all-roomy-save.ensures ∙ c.if1.true)
 
 loop-holds : tie.Need-loop-init invariant-loop decreases-loop
-loop-holds c = roomy-first _ _ _
+loop-holds c = roomy_first _ _ _
 
 backlog-requires : tie.Need-backlog-requires invariant-loop decreases-loop
 backlog-requires c κs = search rules
@@ -32,7 +32,7 @@ backlog-requires c κs = search rules
 returns-2 : tie.Need-returns-2 invariant-loop decreases-loop
 returns-2 c =
     let inside = c.before.before.before.loop-test.true in
-    roomy-ends c.before.before.before.before.loop.invariant inside (omega (arith, c.before.before.backlog.ensures.0, c.if2.true))
+    roomy_ends c.before.before.before.before.loop.invariant inside (omega (arith, c.before.before.backlog.ensures.0, c.if2.true))
 
 add-i : tie.Need-overflow-add-i invariant-loop decreases-loop
 add-i c = search rules
@@ -43,13 +43,13 @@ loop-less c = search rules
 loop-again : tie.Need-loop-preserved invariant-loop decreases-loop
 loop-again c =
     let inside = c.before.before.before.loop-test.true in
-    roomy-next c.before.before.before.before.loop.invariant inside (omega (arith, c.before.before.backlog.ensures.0, c.if2.false))
+    roomy_next c.before.before.before.before.loop.invariant inside (omega (arith, c.before.before.backlog.ensures.0, c.if2.false))
 
 returns-3 : tie.Need-returns-3 invariant-loop decreases-loop
-returns-3 c = roomy-all c.before.loop.invariant c.loop-test.false
+returns-3 c = roomy_all c.before.loop.invariant c.loop-test.false
 
-pub roomy-save-spec : {M : Type 1} → statement M
-roomy-save-spec =
+pub roomy_save_spec : {M : Type 1} → statement M
+roomy_save_spec =
     tie.close
     (tie.spec
     invariant-loop

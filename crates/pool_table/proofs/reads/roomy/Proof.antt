@@ -3,8 +3,8 @@
 use borrow.Author.Rules.{rules}
 use Prim.Native.Nat.{◌-◌}
 use native.Mathlib.Omega.{arith}
-use Rattle.pool_counts.proofs.Frames.{ReadTurn, read_first, read-covered, read_all}
-use Rattle.pool_table.proofs.ReadTurns.{entry-is, place_inside, table-ends, table-ahead}
+use Rattle.pool_counts.proofs.Frames.{ReadTurn, read_first, read_covered, read_all}
+use Rattle.pool_table.proofs.ReadTurns.{entry_is, place_inside, table_ends, table_ahead}
 use Rattle.pool_table.proofs.reads.roomy.Statement.{statement}
 use Rattle.pool_table.proofs.reads.roomy.Tie as tie
 
@@ -55,7 +55,7 @@ sub-needed c =
     let table = c.before.before.before.before.before.before.before.before.requires in
     let ahead = c.before.if1.true in
     let inside = c.before.before.before.before.loop-test.true in
-    omega (arith, entry-is inv inside place_is table ahead)
+    omega (arith, entry_is inv inside place_is table ahead)
 
 returns : tie.Need-returns invariant-loop decreases-loop
 returns c =
@@ -64,7 +64,7 @@ returns c =
     let ahead = c.before.before.if1.true in
     let inv = c.before.before.before.before.before.before.loop.invariant in
     let inside = c.before.before.before.before.before.loop-test.true in
-    (table-ends inv inside place_is table ahead c.if2.true, inv.so_far)
+    (table_ends inv inside place_is table ahead c.if2.true, inv.so_far)
 
 add-ceiling : tie.Need-overflow-add-ceiling invariant-loop decreases-loop
 add-ceiling c =
@@ -90,7 +90,7 @@ loop-again c =
     let room = c.before.if2.false in
     let inside = c.before.before.before.before.before.before.loop-test.true in
     let place_is = c.before.before.before.before.cycle-index.ensures in
-    table-ahead inv inside place_is table ahead room c.larger.ensures
+    table_ahead inv inside place_is table ahead room c.larger.ensures
 
 loop-less-2 : tie.Need-loop-smaller-2 invariant-loop decreases-loop
 loop-less-2 c = search rules
@@ -98,13 +98,13 @@ loop-less-2 c = search rules
 loop-again-2 : tie.Need-loop-preserved-2 invariant-loop decreases-loop
 loop-again-2 c =
     let inside = c.before.before.before.loop-test.true in
-    read-covered c.before.before.before.before.loop.invariant inside c.before.cycle-index.ensures c.if1.false
+    read_covered c.before.before.before.before.loop.invariant inside c.before.cycle-index.ensures c.if1.false
 
 returns-2 : tie.Need-returns-2 invariant-loop decreases-loop
 returns-2 c = read_all c.before.loop.invariant c.loop-test.false
 
-pub roomy-spec : {M : Type 1} → statement M
-roomy-spec =
+pub roomy_spec : {M : Type 1} → statement M
+roomy_spec =
     tie.close
     (tie.spec
     invariant-loop

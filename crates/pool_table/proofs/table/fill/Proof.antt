@@ -1,12 +1,12 @@
 -- `pool_table::table::fill` meets its contract.
 -- Assumes nothing.
-use Rattle.pool_table.proofs.Adding.{within-limit}
+use Rattle.pool_table.proofs.Adding.{within_limit}
 use borrow.Author.Rules.{rules}
 use Rattle.pool_table.proofs.table.fill.Statement.{statement}
 use Rattle.pool_table.proofs.table.fill.Tie as tie
 
 tally-requires : tie.Need-tally-requires
-tally-requires c κs = (c.before.before.before.requires.0, within-limit _ _ c.before.before.before.requires.1)
+tally-requires c κs = (c.before.before.before.requires.0, within_limit _ _ c.before.before.before.requires.1)
 
 add-up-requires : tie.Need-add-up-requires
 add-up-requires c κs = search rules

@@ -4,7 +4,7 @@ use borrow.Author.Rules.{rules}
 use Prim.Native.Nat.{◌-◌}
 use native.Mathlib.Omega.{arith}
 use mathlib.Core.Path.{sym, ◌∙◌}
-use Rattle.pool_table.proofs.Adding.{Tallying, tally-first, tally-place, tally-small, tally-next, tallied}
+use Rattle.pool_table.proofs.Adding.{Tallying, tally_first, tally_place, tally_small, tally_next, tallied}
 use Rattle.pool_table.proofs.table.tally.Statement.{statement}
 use Rattle.pool_table.proofs.table.tally.Tie as tie
 
@@ -15,7 +15,7 @@ abbrev decreases-loop : tie.decreases-loop
 decreases-loop plan table₀ n i₀ table i = n - i
 
 loop-holds : tie.Need-loop-init invariant-loop decreases-loop
-loop-holds c = tally-first _ _ c.before.before.requires.0
+loop-holds c = tally_first _ _ c.before.before.requires.0
 
 mul-cycle : tie.Need-overflow-mul-cycle invariant-loop decreases-loop
 mul-cycle c = search rules
@@ -31,7 +31,7 @@ mul-table c =
     let inv = c.before.before.before.loop.invariant in
     let low = c.before.before.before.before.before.before.requires.1 in
     let inside = c.before.before.loop-test.true in
-    omega (arith, tally-place inv low inside c.cycle-index.ensures)
+    omega (arith, tally_place inv low inside c.cycle-index.ensures)
 
 slice-read-table : tie.Need-slice-read-table invariant-loop decreases-loop
 slice-read-table c =
@@ -39,7 +39,7 @@ slice-read-table c =
     let low = c.before.before.before.before.before.before.before.requires.1 in
     let inside = c.before.before.before.loop-test.true in
     let place_is = c.before.cycle-index.ensures in
-    omega (arith, tally-place inv low inside place_is, inv.long)
+    omega (arith, tally_place inv low inside place_is, inv.long)
 
 add-table : tie.Need-overflow-add-table invariant-loop decreases-loop
 add-table c =
@@ -47,7 +47,7 @@ add-table c =
     let low = c.before.before.before.before.before.before.before.requires.1 in
     let inside = c.before.before.before.loop-test.true in
     let place_is = c.before.cycle-index.ensures in
-    omega (arith, tally-small inv low inside place_is)
+    omega (arith, tally_small inv low inside place_is)
 
 mul-table-2 : tie.Need-overflow-mul-table-2 invariant-loop decreases-loop
 mul-table-2 c =
@@ -55,7 +55,7 @@ mul-table-2 c =
     let low = c.before.before.before.before.before.before.before.requires.1 in
     let inside = c.before.before.before.loop-test.true in
     let place_is = c.before.cycle-index.ensures in
-    omega (arith, tally-place inv low inside place_is)
+    omega (arith, tally_place inv low inside place_is)
 
 slice-write-table : tie.Need-slice-write-table invariant-loop decreases-loop
 slice-write-table c =
@@ -63,7 +63,7 @@ slice-write-table c =
     let low = c.before.before.before.before.before.before.before.requires.1 in
     let inside = c.before.before.before.loop-test.true in
     let place_is = c.before.cycle-index.ensures in
-    omega (arith, tally-place inv low inside place_is, inv.long)
+    omega (arith, tally_place inv low inside place_is, inv.long)
 
 add-i : tie.Need-overflow-add-i invariant-loop decreases-loop
 add-i c = search rules
@@ -77,7 +77,7 @@ loop-again c =
     let low = c.before.before.before.before.before.before.before.requires.1 in
     let inside = c.before.before.before.loop-test.true in
     let place_is = c.before.cycle-index.ensures in
-    tally-next inv low inside place_is
+    tally_next inv low inside place_is
 
 same_length : tie.Need-same-length invariant-loop decreases-loop
 same_length c = c.before.loop.invariant.long ∙ sym c.before.before.before.before.requires.0.long
@@ -85,8 +85,8 @@ same_length c = c.before.loop.invariant.long ∙ sym c.before.before.before.befo
 returns : tie.Need-returns invariant-loop decreases-loop
 returns c = tallied c.before.loop.invariant c.loop-test.false
 
-pub tally-spec : {M : Type 1} → statement M
-tally-spec =
+pub tally_spec : {M : Type 1} → statement M
+tally_spec =
     tie.close
     (tie.spec
     invariant-loop

@@ -4,15 +4,15 @@ use Prim.Native.Nat.{◌≤◌, ◌-◌}
 use mathlib.Core.Path.{◌≡◌}
 use native.Mathlib.Omega.{arith}
 use lib.Seq.{sets}
-use Rattle.printing.specs.Printed.{frameLines}
-use Rattle.printing.proofs.Listed.{head-length, plan-long, no_lines, next-line, put_all}
+use Rattle.printing.specs.Printed.{frame_lines}
+use Rattle.printing.proofs.Listed.{head_length, plan_long, no_lines, next_line, put_all}
 use Rattle.print_lines.proofs.Outcome.{no_room}
 use borrow.Author.Rules.{rules}
 use Rattle.printing.proofs.lines.plan.Statement.{statement}
 use Rattle.printing.proofs.lines.plan.Tie as tie
 
 abbrev invariant-loop : tie.invariant-loop
-invariant-loop cards cycles out₀ n digit i₀ out i = (i ≤ n) × (out ≡ sets out₀ 5 (frameLines cards cycles i))
+invariant-loop cards cycles out₀ n digit i₀ out i = (i ≤ n) × (out ≡ sets out₀ 5 (frame_lines cards cycles i))
 
 abbrev decreases-loop : tie.decreases-loop
 decreases-loop cards cycles out₀ n digit i₀ out i = n - i
@@ -26,7 +26,7 @@ add-if1 c = search rules
 returns : tie.Need-returns invariant-loop decreases-loop
 returns c =
     let given = c.before.before.before.before.args in
-    no_room _ _ (omega (arith, plan-long given.cards.now (record { cycles = given.cycles.now; T = given.t.0 })))
+    no_room _ _ (omega (arith, plan_long given.cards.now (record { cycles = given.cycles.now; T = given.t.0 })))
 
 digit-texts-requires : tie.Need-digit-texts-requires invariant-loop decreases-loop
 digit-texts-requires c κs = search rules
@@ -63,9 +63,9 @@ frame-line-requires c κs =
     let turn = c.before.before.before.before.before in
     let head = turn.before.before.before in
     let start = head.before.before.before.before.before.before.before.before in
-    let text = frameLines start.args.cards.now start.args.cycles.now turn.loop.i in (
+    let text = frame_lines start.args.cards.now start.args.cycles.now turn.loop.i in (
       head.before.before.before.digit-texts.ensures,
-      omega (arith, head-length _ _ _ _ text head.put4.ensures turn.loop.invariant.1),
+      omega (arith, head_length _ _ _ _ text head.put4.ensures turn.loop.invariant.1),
       omega arith,
     )
 
@@ -78,7 +78,7 @@ loop-less c = search rules
 loop-again : tie.Need-loop-preserved invariant-loop decreases-loop
 loop-again c =
     let turn = c.before.before.before.before.before.before.before.before in
-    (omega arith, next-line _ _ _ _ _ _ turn.loop.invariant.1 c.before.before.frame-line.ensures)
+    (omega arith, next_line _ _ _ _ _ _ turn.loop.invariant.1 c.before.before.frame-line.ensures)
 
 mul-result : tie.Need-overflow-mul-result invariant-loop decreases-loop
 mul-result c = search rules
@@ -90,16 +90,16 @@ same_length : tie.Need-same-length invariant-loop decreases-loop
 same_length c =
     let head = c.before.before.before.before in
     let start = head.before.before.before.before.before.before.before.before in
-    let text = frameLines start.args.cards.now start.args.cycles.now c.before.loop.i in
-    head-length _ _ _ _ text head.put4.ensures c.before.loop.invariant.1
+    let text = frame_lines start.args.cards.now start.args.cycles.now c.before.loop.i in
+    head_length _ _ _ _ text head.put4.ensures c.before.loop.invariant.1
 
 returns-2 : tie.Need-returns-2 invariant-loop decreases-loop
 returns-2 c =
     let head = c.before.before.before.before in
     put_all _ _ _ _ _ _ _ (omega arith) (omega arith) head.put4.ensures c.before.loop.invariant.1
 
-pub plan-spec : {M : Type 1} → statement M
-plan-spec =
+pub plan_spec : {M : Type 1} → statement M
+plan_spec =
     tie.close
     (tie.spec
     invariant-loop

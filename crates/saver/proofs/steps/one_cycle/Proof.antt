@@ -1,6 +1,6 @@
 -- `saver::steps::one_cycle` meets its contract.
 -- Assumes nothing.
-use Rattle.saver.proofs.Sorting.{Sorting, card-below, place-below, sort-first, sort-writes, sort-keeps, sorted}
+use Rattle.saver.proofs.Sorting.{Sorting, card_below, place_below, sort_first, sort_writes, sort_keeps, sorted}
 use borrow.Author.Rules.{rules}
 use Prim.Native.Nat.{◌-◌}
 use native.Mathlib.Omega.{arith}
@@ -14,7 +14,7 @@ abbrev decreases-loop : tie.decreases-loop
 decreases-loop saver written₀ card₀ position₀ left₀ i₀ written card position left i = saver.waiting - i
 
 loop-holds : tie.Need-loop-init invariant-loop decreases-loop
-loop-holds c = sort-first
+loop-holds c = sort_first
 
 cast-place : tie.Need-overflow-cast-place invariant-loop decreases-loop
 cast-place c = search rules
@@ -34,12 +34,12 @@ cast-k c = search rules
 mul-entry : tie.Need-overflow-mul-entry invariant-loop decreases-loop
 mul-entry c =
     let turn = c.before.before.before in
-    omega (arith, card-below turn.before.requires turn.loop.i (omega arith))
+    omega (arith, card_below turn.before.requires turn.loop.i (omega arith))
 
 element-copy-out-entry : tie.Need-element-copy-out-entry invariant-loop decreases-loop
 element-copy-out-entry c =
     let turn = c.before.before.before in
-    omega (arith, card-below turn.before.requires turn.loop.i (omega arith))
+    omega (arith, card_below turn.before.requires turn.loop.i (omega arith))
 
 add-i : tie.Need-overflow-add-i invariant-loop decreases-loop
 add-i c = search rules
@@ -47,12 +47,12 @@ add-i c = search rules
 mul-written : tie.Need-overflow-mul-written invariant-loop decreases-loop
 mul-written c =
     let turn = c.before.before.before.before in
-    omega (arith, card-below turn.before.requires turn.loop.i (omega arith))
+    omega (arith, card_below turn.before.requires turn.loop.i (omega arith))
 
 array-set-from-written : tie.Need-array-set-from-written invariant-loop decreases-loop
 array-set-from-written c =
     let turn = c.before.before.before.before in
-    omega (arith, card-below turn.before.requires turn.loop.i (omega arith))
+    omega (arith, card_below turn.before.requires turn.loop.i (omega arith))
 
 loop-less : tie.Need-loop-smaller invariant-loop decreases-loop
 loop-less c = search rules
@@ -60,32 +60,32 @@ loop-less c = search rules
 loop-again : tie.Need-loop-preserved invariant-loop decreases-loop
 loop-again c =
     let turn = c.before.before.before.before in
-    sort-writes turn.before.requires turn.loop.invariant (omega arith) (omega arith)
+    sort_writes turn.before.requires turn.loop.invariant (omega arith) (omega arith)
 
 cast-to : tie.Need-overflow-cast-to invariant-loop decreases-loop
 cast-to c =
     let turn = c.before.before.before.before in
-    omega (arith, place-below turn.before.requires turn.loop.invariant (omega arith))
+    omega (arith, place_below turn.before.requires turn.loop.invariant (omega arith))
 
 array-write-card : tie.Need-array-write-card invariant-loop decreases-loop
 array-write-card c =
     let turn = c.before.before.before.before in
-    omega (arith, place-below turn.before.requires turn.loop.invariant (omega arith))
+    omega (arith, place_below turn.before.requires turn.loop.invariant (omega arith))
 
 mul-position : tie.Need-overflow-mul-position invariant-loop decreases-loop
 mul-position c =
     let turn = c.before.before.before.before in
-    omega (arith, place-below turn.before.requires turn.loop.invariant (omega arith))
+    omega (arith, place_below turn.before.requires turn.loop.invariant (omega arith))
 
 array-set-from-position : tie.Need-array-set-from-position invariant-loop decreases-loop
 array-set-from-position c =
     let turn = c.before.before.before.before in
-    omega (arith, place-below turn.before.requires turn.loop.invariant (omega arith))
+    omega (arith, place_below turn.before.requires turn.loop.invariant (omega arith))
 
 add_left : tie.Need-overflow-add-left invariant-loop decreases-loop
 add_left c =
     let turn = c.before.before.before.before in
-    omega (arith, place-below turn.before.requires turn.loop.invariant (omega arith))
+    omega (arith, place_below turn.before.requires turn.loop.invariant (omega arith))
 
 loop-less-2 : tie.Need-loop-smaller-2 invariant-loop decreases-loop
 loop-less-2 c = search rules
@@ -93,7 +93,7 @@ loop-less-2 c = search rules
 loop-again-2 : tie.Need-loop-preserved-2 invariant-loop decreases-loop
 loop-again-2 c =
     let turn = c.before.before.before.before in
-    sort-keeps turn.before.requires turn.loop.invariant (omega arith) c.if1.false
+    sort_keeps turn.before.requires turn.loop.invariant (omega arith) c.if1.false
 
 add-t36 : tie.Need-overflow-add-t36 invariant-loop decreases-loop
 add-t36 c = search rules
@@ -101,8 +101,8 @@ add-t36 c = search rules
 returns : tie.Need-returns invariant-loop decreases-loop
 returns c = sorted c.before.loop.invariant (omega arith)
 
-pub one-cycle-spec : {M : Type 1} → statement M
-one-cycle-spec =
+pub one_cycle_spec : {M : Type 1} → statement M
+one_cycle_spec =
     tie.close
     (tie.spec
     invariant-loop

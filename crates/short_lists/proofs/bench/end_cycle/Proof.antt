@@ -46,8 +46,8 @@ returns-2 c = search rules
 returns-3 : tie.Need-returns-3 invariant-loop decreases-loop
 returns-3 c = search rules
 
-pub end-cycle-spec : {M : Type 1} → statement M
-end-cycle-spec =
+pub end_cycle_spec : {M : Type 1} → statement M
+end_cycle_spec =
     tie.close
     (tie.spec
     invariant-loop

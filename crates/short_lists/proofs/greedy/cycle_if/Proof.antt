@@ -58,8 +58,8 @@ returns c = search rules
 returns-2 : tie.Need-returns-2 invariant-loop decreases-loop
 returns-2 c = search rules
 
-pub cycle-if-spec : {M : Type 1} → statement M
-cycle-if-spec =
+pub cycle_if_spec : {M : Type 1} → statement M
+cycle_if_spec =
     tie.close
     (tie.spec
     invariant-loop

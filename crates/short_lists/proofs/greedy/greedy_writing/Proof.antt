@@ -31,8 +31,8 @@ loop-again c = search rules
 returns : tie.Need-returns invariant-loop decreases-loop
 returns c = search rules
 
-pub greedy-writing-spec : {M : Type 1} → statement M
-greedy-writing-spec =
+pub greedy_writing_spec : {M : Type 1} → statement M
+greedy_writing_spec =
     tie.close
     (tie.spec
     invariant-loop

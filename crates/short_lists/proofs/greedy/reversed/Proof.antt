@@ -40,8 +40,8 @@ loop-again c = search rules
 returns : tie.Need-returns invariant-loop decreases-loop
 returns c = search rules
 
-pub reversed-spec : {M : Type 1} → statement M
-reversed-spec =
+pub reversed_spec : {M : Type 1} → statement M
+reversed_spec =
     tie.close
     (tie.spec
     invariant-loop

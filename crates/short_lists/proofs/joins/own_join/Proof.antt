@@ -40,8 +40,8 @@ loop-again c = search rules
 returns : tie.Need-returns invariant-loop decreases-loop
 returns c = search rules
 
-pub own-join-spec : {M : Type 1} → statement M
-own-join-spec =
+pub own_join_spec : {M : Type 1} → statement M
+own_join_spec =
     tie.close
     (tie.spec
     invariant-loop

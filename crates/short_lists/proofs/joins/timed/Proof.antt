@@ -37,8 +37,8 @@ loop-again c = search rules
 returns : tie.Need-returns invariant-loop decreases-loop
 returns c = search rules
 
-pub timed-spec : {M : Type 1} → statement M
-timed-spec =
+pub timed_spec : {M : Type 1} → statement M
+timed_spec =
     tie.close
     (tie.spec
     invariant-loop

@@ -34,8 +34,8 @@ loop-again c = search rules
 returns : tie.Need-returns invariant-loop decreases-loop
 returns c = search rules
 
-pub unlike-spec : {M : Type 1} → statement M
-unlike-spec =
+pub unlike_spec : {M : Type 1} → statement M
+unlike_spec =
     tie.close
     (tie.spec
     invariant-loop

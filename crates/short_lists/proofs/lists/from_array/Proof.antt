@@ -37,8 +37,8 @@ loop-again c = search rules
 returns : tie.Need-returns invariant-loop decreases-loop
 returns c = search rules
 
-pub from-array-spec : {M : Type 1} → statement M
-from-array-spec =
+pub from_array_spec : {M : Type 1} → statement M
+from_array_spec =
     tie.close
     (tie.spec
     invariant-loop

@@ -4,8 +4,8 @@ use Rattle.std.proofs.Common.{ℕ, ◌-◌, ◌*◌, ◌<◌, ◌≤◌, mul-le-
 use Rattle.short_lists.proofs.lists.how_many.Statement.{statement}
 use Rattle.short_lists.proofs.lists.how_many.Tie as tie
 
-product-fits : (p k : ℕ) → p < 1000000 → k < 10 → p * k < 18446744073709551616
-product-fits p k small few =
+product_fits : (p k : ℕ) → p < 1000000 → k < 10 → p * k < 18446744073709551616
+product_fits p k small few =
     let most : p * k ≤ p * 9 = mul-le-mul_left p (omega (arith, few)) in
     omega (arith, small, most)
 
@@ -25,7 +25,7 @@ add-i : tie.Need-overflow-add-i invariant-loop decreases-loop
 add-i c = search rules
 
 mul-product : tie.Need-overflow-mul-product invariant-loop decreases-loop
-mul-product c = record { fits = product-fits _ _ (omega arith) (omega arith) }
+mul-product c = record { fits = product_fits _ _ (omega arith) (omega arith) }
 
 loop-less : tie.Need-loop-smaller invariant-loop decreases-loop
 loop-less c = search rules
@@ -42,8 +42,8 @@ loop-again-2 c = search rules
 returns : tie.Need-returns invariant-loop decreases-loop
 returns c = search rules
 
-pub how-many-spec : {M : Type 1} → statement M
-how-many-spec =
+pub how_many_spec : {M : Type 1} → statement M
+how_many_spec =
     tie.close
     (tie.spec
     invariant-loop

@@ -37,8 +37,8 @@ loop-again c = search rules
 returns : tie.Need-returns invariant-loop decreases-loop
 returns c = search rules
 
-pub numbered-spec : {M : Type 1} → statement M
-numbered-spec =
+pub numbered_spec : {M : Type 1} → statement M
+numbered_spec =
     tie.close
     (tie.spec
     invariant-loop

@@ -37,8 +37,8 @@ loop-again c = search rules
 returns : tie.Need-returns invariant-loop decreases-loop
 returns c = search rules
 
-pub to-array-spec : {M : Type 1} → statement M
-to-array-spec =
+pub to_array_spec : {M : Type 1} → statement M
+to_array_spec =
     tie.close
     (tie.spec
     invariant-loop

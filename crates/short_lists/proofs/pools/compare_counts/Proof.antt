@@ -52,8 +52,8 @@ loop-again c = search rules
 returns : tie.Need-returns invariant-loop decreases-loop
 returns c = search rules
 
-pub compare-counts-spec : {M : Type 1} → statement M
-compare-counts-spec =
+pub compare_counts_spec : {M : Type 1} → statement M
+compare_counts_spec =
     tie.close
     (tie.spec
     invariant-loop

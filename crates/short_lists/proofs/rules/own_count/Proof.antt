@@ -43,8 +43,8 @@ list-requires c κs = search rules
 returns : tie.Need-returns invariant-loop decreases-loop
 returns c = search rules
 
-pub own-count-spec : {M : Type 1} → statement M
-own-count-spec =
+pub own_count_spec : {M : Type 1} → statement M
+own_count_spec =
     tie.close
     (tie.spec
     invariant-loop

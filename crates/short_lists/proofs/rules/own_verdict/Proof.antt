@@ -34,8 +34,8 @@ loop-again c = search rules
 returns : tie.Need-returns invariant-loop decreases-loop
 returns c = search rules
 
-pub own-verdict-spec : {M : Type 1} → statement M
-own-verdict-spec =
+pub own_verdict_spec : {M : Type 1} → statement M
+own_verdict_spec =
     tie.close
     (tie.spec
     invariant-loop

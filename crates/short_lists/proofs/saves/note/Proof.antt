@@ -1,15 +1,15 @@
 -- `short_lists::saves::note` meets its contract.
 -- Assumes nothing.
 use Rattle.std.proofs.Common.{◌-◌, ◌≤◌, rules}
-use Rattle.header.specs.Limits.{maxCards}
+use Rattle.header.specs.Limits.{max_cards}
 use Rattle.short_lists.proofs.saves.note.Statement.{statement}
 use Rattle.short_lists.proofs.saves.note.Tie as tie
 
 abbrev invariant-loop : tie.invariant-loop
-invariant-loop cycles c noted₀ written made card₀ noted card = card ≤ maxCards
+invariant-loop cycles c noted₀ written made card₀ noted card = card ≤ max_cards
 
 abbrev decreases-loop : tie.decreases-loop
-decreases-loop cycles c noted₀ written made card₀ noted card = maxCards - card
+decreases-loop cycles c noted₀ written made card₀ noted card = max_cards - card
 
 loop-holds : tie.Need-loop-init invariant-loop decreases-loop
 loop-holds c = search rules
@@ -50,8 +50,8 @@ loop-again c = search rules
 returns : tie.Need-returns invariant-loop decreases-loop
 returns c = search rules
 
-pub note-spec : {M : Type 1} → statement M
-note-spec =
+pub note_spec : {M : Type 1} → statement M
+note_spec =
     tie.close
     (tie.spec
     invariant-loop

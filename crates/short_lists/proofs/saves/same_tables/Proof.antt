@@ -1,15 +1,15 @@
 -- `short_lists::saves::same_tables` meets its contract.
 -- Assumes nothing.
 use Rattle.std.proofs.Common.{◌-◌, ◌≤◌, rules}
-use Rattle.header.specs.Limits.{maxPool}
+use Rattle.header.specs.Limits.{max_pool}
 use Rattle.short_lists.proofs.saves.same_tables.Statement.{statement}
 use Rattle.short_lists.proofs.saves.same_tables.Tie as tie
 
 abbrev invariant-loop : tie.invariant-loop
-invariant-loop a b same₀ i₀ same i = i ≤ maxPool
+invariant-loop a b same₀ i₀ same i = i ≤ max_pool
 
 abbrev decreases-loop : tie.decreases-loop
-decreases-loop a b same₀ i₀ same i = maxPool - i
+decreases-loop a b same₀ i₀ same i = max_pool - i
 
 loop-holds : tie.Need-loop-init invariant-loop decreases-loop
 loop-holds c = search rules
@@ -44,8 +44,8 @@ loop-again c = search rules
 returns : tie.Need-returns invariant-loop decreases-loop
 returns c = search rules
 
-pub same-tables-spec : {M : Type 1} → statement M
-same-tables-spec =
+pub same_tables_spec : {M : Type 1} → statement M
+same_tables_spec =
     tie.close
     (tie.spec
     invariant-loop

@@ -74,8 +74,8 @@ loop2-again-2 c = search rules
 returns : tie.Need-returns invariant-loop decreases-loop invariant-loop2 decreases-loop2
 returns c = search rules
 
-pub save-list-spec : {M : Type 1} → statement M
-save-list-spec =
+pub save_list_spec : {M : Type 1} → statement M
+save_list_spec =
     tie.close
     (tie.spec
     invariant-loop

@@ -58,8 +58,8 @@ loop-again c = search rules
 returns-2 : tie.Need-returns-2 invariant-loop decreases-loop
 returns-2 c = search rules
 
-pub compare-all-spec : {M : Type 1} → statement M
-compare-all-spec =
+pub compare_all_spec : {M : Type 1} → statement M
+compare_all_spec =
     tie.close
     (tie.spec
     invariant-loop

@@ -17,21 +17,21 @@ use Rattle.short_lists.proofs.steps.+explore.Tie.{close}
 abbrev μ-explore : Measures 1 explore-kinds.ps ℕ
 μ-explore κs a = a.0
 
-abbrev explore-at : ℕ → In 1 explore-kinds.ps
-explore-at t = and 1 explore-kinds.ps (is 1 explore-kinds.ps μ-explore t) explore.Pre
+abbrev explore_at : ℕ → In 1 explore-kinds.ps
+explore_at t = and 1 explore-kinds.ps (is 1 explore-kinds.ps μ-explore t) explore.Pre
 
-abbrev explore-below : ℕ → In 1 explore-kinds.ps
-explore-below t = and 1 explore-kinds.ps (falls 1 explore-kinds.ps ◌<◌ μ-explore t) explore.Pre
+abbrev explore_below : ℕ → In 1 explore-kinds.ps
+explore_below t = and 1 explore-kinds.ps (falls 1 explore-kinds.ps ◌<◌ μ-explore t) explore.Pre
 
-abbrev explore-Inv-loop : explore-lts.invariant-loop
-explore-Inv-loop left counts₀ c steps b refusal d memory fewest₀ choices number₀ counts fewest number =
+abbrev explore_Inv_loop : explore-lts.invariant-loop
+explore_Inv_loop left counts₀ c steps b refusal d memory fewest₀ choices number₀ counts fewest number =
     number ≤ choices
 
 abbrev explore-μ-loop : explore-lts.decreases-loop
 explore-μ-loop left counts₀ c steps b refusal d memory fewest₀ choices number₀ counts fewest number =
     choices - number
 
-explore-compare-docks-requires : (t : ℕ) → explore-lts.Need-compare-docks-requires (
+explore_compare_docks_requires : (t : ℕ) → explore-lts.Need-compare-docks-requires (
   compare-docks-reads.Asked,
   compare-docks-reads.Learnt,
   step-of-reads.Asked,
@@ -42,12 +42,12 @@ explore-compare-docks-requires : (t : ℕ) → explore-lts.Need-compare-docks-re
   wrapping-add-u64-reads.Learnt,
   step-reads.Asked,
   step-reads.Learnt,
-  explore-below t,
+  explore_below t,
   explore.Post,
-) (explore-at t) explore.Post explore-Inv-loop explore-μ-loop
-explore-compare-docks-requires t c κs = search rules
+) (explore_at t) explore.Post explore_Inv_loop explore-μ-loop
+explore_compare_docks_requires t c κs = search rules
 
-explore-returns : (t : ℕ) → explore-lts.Need-returns (
+explore_returns : (t : ℕ) → explore-lts.Need-returns (
   compare-docks-reads.Asked,
   compare-docks-reads.Learnt,
   step-of-reads.Asked,
@@ -58,12 +58,12 @@ explore-returns : (t : ℕ) → explore-lts.Need-returns (
   wrapping-add-u64-reads.Learnt,
   step-reads.Asked,
   step-reads.Learnt,
-  explore-below t,
+  explore_below t,
   explore.Post,
-) (explore-at t) explore.Post explore-Inv-loop explore-μ-loop
-explore-returns t c = search rules
+) (explore_at t) explore.Post explore_Inv_loop explore-μ-loop
+explore_returns t c = search rules
 
-explore-mul-choices : (t : ℕ) → explore-lts.Need-overflow-mul-choices (
+explore_mul_choices : (t : ℕ) → explore-lts.Need-overflow-mul-choices (
   compare-docks-reads.Asked,
   compare-docks-reads.Learnt,
   step-of-reads.Asked,
@@ -74,12 +74,12 @@ explore-mul-choices : (t : ℕ) → explore-lts.Need-overflow-mul-choices (
   wrapping-add-u64-reads.Learnt,
   step-reads.Asked,
   step-reads.Learnt,
-  explore-below t,
+  explore_below t,
   explore.Post,
-) (explore-at t) explore.Post explore-Inv-loop explore-μ-loop
-explore-mul-choices t c = search rules
+) (explore_at t) explore.Post explore_Inv_loop explore-μ-loop
+explore_mul_choices t c = search rules
 
-explore-add-choices : (t : ℕ) → explore-lts.Need-overflow-add-choices (
+explore_add_choices : (t : ℕ) → explore-lts.Need-overflow-add-choices (
   compare-docks-reads.Asked,
   compare-docks-reads.Learnt,
   step-of-reads.Asked,
@@ -90,12 +90,12 @@ explore-add-choices : (t : ℕ) → explore-lts.Need-overflow-add-choices (
   wrapping-add-u64-reads.Learnt,
   step-reads.Asked,
   step-reads.Learnt,
-  explore-below t,
+  explore_below t,
   explore.Post,
-) (explore-at t) explore.Post explore-Inv-loop explore-μ-loop
-explore-add-choices t c = search rules
+) (explore_at t) explore.Post explore_Inv_loop explore-μ-loop
+explore_add_choices t c = search rules
 
-explore-loop-holds : (t : ℕ) → explore-lts.Need-loop-init (
+explore_loop_holds : (t : ℕ) → explore-lts.Need-loop-init (
   compare-docks-reads.Asked,
   compare-docks-reads.Learnt,
   step-of-reads.Asked,
@@ -106,12 +106,12 @@ explore-loop-holds : (t : ℕ) → explore-lts.Need-loop-init (
   wrapping-add-u64-reads.Learnt,
   step-reads.Asked,
   step-reads.Learnt,
-  explore-below t,
+  explore_below t,
   explore.Post,
-) (explore-at t) explore.Post explore-Inv-loop explore-μ-loop
-explore-loop-holds t c = search rules
+) (explore_at t) explore.Post explore_Inv_loop explore-μ-loop
+explore_loop_holds t c = search rules
 
-explore-step-of-requires : (t : ℕ) → explore-lts.Need-step-of-requires (
+explore_step_of_requires : (t : ℕ) → explore-lts.Need-step-of-requires (
   compare-docks-reads.Asked,
   compare-docks-reads.Learnt,
   step-of-reads.Asked,
@@ -122,12 +122,12 @@ explore-step-of-requires : (t : ℕ) → explore-lts.Need-step-of-requires (
   wrapping-add-u64-reads.Learnt,
   step-reads.Asked,
   step-reads.Learnt,
-  explore-below t,
+  explore_below t,
   explore.Post,
-) (explore-at t) explore.Post explore-Inv-loop explore-μ-loop
-explore-step-of-requires t c κs = search rules
+) (explore_at t) explore.Post explore_Inv_loop explore-μ-loop
+explore_step_of_requires t c κs = search rules
 
-explore-slice-aggregate-drive : (t : ℕ) → explore-lts.Need-slice-aggregate-drive (
+explore_slice_aggregate_drive : (t : ℕ) → explore-lts.Need-slice-aggregate-drive (
   compare-docks-reads.Asked,
   compare-docks-reads.Learnt,
   step-of-reads.Asked,
@@ -138,12 +138,12 @@ explore-slice-aggregate-drive : (t : ℕ) → explore-lts.Need-slice-aggregate-d
   wrapping-add-u64-reads.Learnt,
   step-reads.Asked,
   step-reads.Learnt,
-  explore-below t,
+  explore_below t,
   explore.Post,
-) (explore-at t) explore.Post explore-Inv-loop explore-μ-loop
-explore-slice-aggregate-drive t c = search rules
+) (explore_at t) explore.Post explore_Inv_loop explore-μ-loop
+explore_slice_aggregate_drive t c = search rules
 
-explore-drive-requires : (t : ℕ) → explore-lts.Need-drive-requires (
+explore_drive_requires : (t : ℕ) → explore-lts.Need-drive-requires (
   compare-docks-reads.Asked,
   compare-docks-reads.Learnt,
   step-of-reads.Asked,
@@ -154,12 +154,12 @@ explore-drive-requires : (t : ℕ) → explore-lts.Need-drive-requires (
   wrapping-add-u64-reads.Learnt,
   step-reads.Asked,
   step-reads.Learnt,
-  explore-below t,
+  explore_below t,
   explore.Post,
-) (explore-at t) explore.Post explore-Inv-loop explore-μ-loop
-explore-drive-requires t c κs = search rules
+) (explore_at t) explore.Post explore_Inv_loop explore-μ-loop
+explore_drive_requires t c κs = search rules
 
-explore-wrapping-add-u64-requires : (t : ℕ) → explore-lts.Need-wrapping-add-u64-requires (
+explore_wrapping_add_u64_requires : (t : ℕ) → explore-lts.Need-wrapping-add-u64-requires (
   compare-docks-reads.Asked,
   compare-docks-reads.Learnt,
   step-of-reads.Asked,
@@ -170,12 +170,12 @@ explore-wrapping-add-u64-requires : (t : ℕ) → explore-lts.Need-wrapping-add-
   wrapping-add-u64-reads.Learnt,
   step-reads.Asked,
   step-reads.Learnt,
-  explore-below t,
+  explore_below t,
   explore.Post,
-) (explore-at t) explore.Post explore-Inv-loop explore-μ-loop
-explore-wrapping-add-u64-requires t c κs = search rules
+) (explore_at t) explore.Post explore_Inv_loop explore-μ-loop
+explore_wrapping_add_u64_requires t c κs = search rules
 
-explore-sub-explore : (t : ℕ) → explore-lts.Need-overflow-sub-explore (
+explore_sub_explore : (t : ℕ) → explore-lts.Need-overflow-sub-explore (
   compare-docks-reads.Asked,
   compare-docks-reads.Learnt,
   step-of-reads.Asked,
@@ -186,12 +186,12 @@ explore-sub-explore : (t : ℕ) → explore-lts.Need-overflow-sub-explore (
   wrapping-add-u64-reads.Learnt,
   step-reads.Asked,
   step-reads.Learnt,
-  explore-below t,
+  explore_below t,
   explore.Post,
-) (explore-at t) explore.Post explore-Inv-loop explore-μ-loop
-explore-sub-explore t c = search rules
+) (explore_at t) explore.Post explore_Inv_loop explore-μ-loop
+explore_sub_explore t c = search rules
 
-explore-step-requires : (t : ℕ) → explore-lts.Need-step-requires (
+explore_step_requires : (t : ℕ) → explore-lts.Need-step-requires (
   compare-docks-reads.Asked,
   compare-docks-reads.Learnt,
   step-of-reads.Asked,
@@ -202,12 +202,12 @@ explore-step-requires : (t : ℕ) → explore-lts.Need-step-requires (
   wrapping-add-u64-reads.Learnt,
   step-reads.Asked,
   step-reads.Learnt,
-  explore-below t,
+  explore_below t,
   explore.Post,
-) (explore-at t) explore.Post explore-Inv-loop explore-μ-loop
-explore-step-requires t c κs = search rules
+) (explore_at t) explore.Post explore_Inv_loop explore-μ-loop
+explore_step_requires t c κs = search rules
 
-explore-explore-requires : (t : ℕ) → explore-lts.Need-explore-requires (
+explore_explore_requires : (t : ℕ) → explore-lts.Need-explore-requires (
   compare-docks-reads.Asked,
   compare-docks-reads.Learnt,
   step-of-reads.Asked,
@@ -218,12 +218,12 @@ explore-explore-requires : (t : ℕ) → explore-lts.Need-explore-requires (
   wrapping-add-u64-reads.Learnt,
   step-reads.Asked,
   step-reads.Learnt,
-  explore-below t,
+  explore_below t,
   explore.Post,
-) (explore-at t) explore.Post explore-Inv-loop explore-μ-loop
-explore-explore-requires t c κs = search rules
+) (explore_at t) explore.Post explore_Inv_loop explore-μ-loop
+explore_explore_requires t c κs = search rules
 
-explore-add-number : (t : ℕ) → explore-lts.Need-overflow-add-number (
+explore_add_number : (t : ℕ) → explore-lts.Need-overflow-add-number (
   compare-docks-reads.Asked,
   compare-docks-reads.Learnt,
   step-of-reads.Asked,
@@ -234,12 +234,12 @@ explore-add-number : (t : ℕ) → explore-lts.Need-overflow-add-number (
   wrapping-add-u64-reads.Learnt,
   step-reads.Asked,
   step-reads.Learnt,
-  explore-below t,
+  explore_below t,
   explore.Post,
-) (explore-at t) explore.Post explore-Inv-loop explore-μ-loop
-explore-add-number t c = search rules
+) (explore_at t) explore.Post explore_Inv_loop explore-μ-loop
+explore_add_number t c = search rules
 
-explore-loop-less : (t : ℕ) → explore-lts.Need-loop-smaller (
+explore_loop_less : (t : ℕ) → explore-lts.Need-loop-smaller (
   compare-docks-reads.Asked,
   compare-docks-reads.Learnt,
   step-of-reads.Asked,
@@ -250,12 +250,12 @@ explore-loop-less : (t : ℕ) → explore-lts.Need-loop-smaller (
   wrapping-add-u64-reads.Learnt,
   step-reads.Asked,
   step-reads.Learnt,
-  explore-below t,
+  explore_below t,
   explore.Post,
-) (explore-at t) explore.Post explore-Inv-loop explore-μ-loop
-explore-loop-less t c = search rules
+) (explore_at t) explore.Post explore_Inv_loop explore-μ-loop
+explore_loop_less t c = search rules
 
-explore-loop-again : (t : ℕ) → explore-lts.Need-loop-preserved (
+explore_loop_again : (t : ℕ) → explore-lts.Need-loop-preserved (
   compare-docks-reads.Asked,
   compare-docks-reads.Learnt,
   step-of-reads.Asked,
@@ -266,12 +266,12 @@ explore-loop-again : (t : ℕ) → explore-lts.Need-loop-preserved (
   wrapping-add-u64-reads.Learnt,
   step-reads.Asked,
   step-reads.Learnt,
-  explore-below t,
+  explore_below t,
   explore.Post,
-) (explore-at t) explore.Post explore-Inv-loop explore-μ-loop
-explore-loop-again t c = search rules
+) (explore_at t) explore.Post explore_Inv_loop explore-μ-loop
+explore_loop_again t c = search rules
 
-explore-returns-2 : (t : ℕ) → explore-lts.Need-returns-2 (
+explore_returns_2 : (t : ℕ) → explore-lts.Need-returns-2 (
   compare-docks-reads.Asked,
   compare-docks-reads.Learnt,
   step-of-reads.Asked,
@@ -282,10 +282,10 @@ explore-returns-2 : (t : ℕ) → explore-lts.Need-returns-2 (
   wrapping-add-u64-reads.Learnt,
   step-reads.Asked,
   step-reads.Learnt,
-  explore-below t,
+  explore_below t,
   explore.Post,
-) (explore-at t) explore.Post explore-Inv-loop explore-μ-loop
-explore-returns-2 t c = search rules
+) (explore_at t) explore.Post explore_Inv_loop explore-μ-loop
+explore_returns_2 t c = search rules
 
 pub +explore-spec : {M : Type 1} → statement M
 +explore-spec = close μ-explore λ t. explore-lts.spec (
@@ -299,26 +299,26 @@ pub +explore-spec : {M : Type 1} → statement M
   wrapping-add-u64-reads.Learnt,
   step-reads.Asked,
   step-reads.Learnt,
-  explore-below t,
+  explore_below t,
   explore.Post,
 )
-    (explore-at t)
+    (explore_at t)
     explore.Post
-    explore-Inv-loop
+    explore_Inv_loop
     explore-μ-loop
-    (explore-compare-docks-requires t)
-    (explore-returns t)
-    (explore-mul-choices t)
-    (explore-add-choices t)
-    (explore-loop-holds t)
-    (explore-step-of-requires t)
-    (explore-slice-aggregate-drive t)
-    (explore-drive-requires t)
-    (explore-wrapping-add-u64-requires t)
-    (explore-sub-explore t)
-    (explore-step-requires t)
-    (explore-explore-requires t)
-    (explore-add-number t)
-    (explore-loop-less t)
-    (explore-loop-again t)
-    (explore-returns-2 t)
+    (explore_compare_docks_requires t)
+    (explore_returns t)
+    (explore_mul_choices t)
+    (explore_add_choices t)
+    (explore_loop_holds t)
+    (explore_step_of_requires t)
+    (explore_slice_aggregate_drive t)
+    (explore_drive_requires t)
+    (explore_wrapping_add_u64_requires t)
+    (explore_sub_explore t)
+    (explore_step_requires t)
+    (explore_explore_requires t)
+    (explore_add_number t)
+    (explore_loop_less t)
+    (explore_loop_again t)
+    (explore_returns_2 t)

@@ -37,8 +37,8 @@ loop-again c = search rules
 returns : tie.Need-returns invariant-loop decreases-loop
 returns c = search rules
 
-pub late-cycles-spec : {M : Type 1} → statement M
-late-cycles-spec =
+pub late_cycles_spec : {M : Type 1} → statement M
+late_cycles_spec =
     tie.close
     (tie.spec
     invariant-loop

@@ -4,14 +4,14 @@ use Prim.Native.Nat.{◌≤◌, ◌-◌}
 use mathlib.Core.Path.{◌≡◌, refl, sym}
 use mathlib.Core.Bool.{true}
 use native.Mathlib.Omega.{arith}
-use Rattle.text.specs.Text.{digitValues, digits}
-use Rattle.text.proofs.Digits.{too_short, no-digits, not-digits, digits-on, is-line}
+use Rattle.text.specs.Text.{digit_values, digits}
+use Rattle.text.proofs.Digits.{too_short, no_digits, not_digits, digits_on, is_line_is}
 use borrow.Author.Rules.{rules}
 use Rattle.text.proofs.read.is_line.Statement.{statement}
 use Rattle.text.proofs.read.is_line.Tie as tie
 
 abbrev invariant-loop : tie.invariant-loop
-invariant-loop value s at n long i₀ i = (i ≤ n) × (value ≡ digitValues → digits s at i ≡ true)
+invariant-loop value s at n long i₀ i = (i ≤ n) × (value ≡ digit_values → digits s at i ≡ true)
 
 abbrev decreases-loop : tie.decreases-loop
 decreases-loop value s at n long i₀ i = n - i
@@ -42,7 +42,7 @@ returns-3 : tie.Need-returns-3 invariant-loop decreases-loop
 returns-3 c table =
     let value-is = c.before.digit.ensures.1 table in
     let i = c.before.before.before.before.loop.i in
-    sym (no-digits _ _ _ (not-digits _ _ _ i (omega arith) (omega (arith, value-is))))
+    sym (no_digits _ _ _ (not_digits _ _ _ i (omega arith) (omega (arith, value-is))))
 
 add-i : tie.Need-overflow-add-i invariant-loop decreases-loop
 add-i c = search rules
@@ -54,7 +54,7 @@ loop-again : tie.Need-loop-preserved invariant-loop decreases-loop
 loop-again c =
     let so_far = c.before.before.before.before.loop.invariant.1 in
     let value-is = c.before.digit.ensures.1 in
-    (omega arith, λ table. digits-on _ _ _ (so_far table) (omega (arith, value-is table)))
+    (omega arith, λ table. digits_on _ _ _ (so_far table) (omega (arith, value-is table)))
 
 add-result : tie.Need-overflow-add-result invariant-loop decreases-loop
 add-result c = search rules
@@ -66,10 +66,10 @@ returns-4 : tie.Need-returns-4 invariant-loop decreases-loop
 returns-4 c table =
     let l = c.before.before.loop in
     let e : l.i ≡ c.before.before.before.before.before.before.args.n = omega arith in
-    sym (is-line _ _ _ (omega arith) (rw e at (l.invariant.1 table)))
+    sym (is_line_is _ _ _ (omega arith) (rw e at (l.invariant.1 table)))
 
-pub is-line-spec : {M : Type 1} → statement M
-is-line-spec =
+pub is_line_spec : {M : Type 1} → statement M
+is_line_spec =
     tie.close
     (tie.spec
     invariant-loop

@@ -1,7 +1,7 @@
 -- `text::read::number` meets its contract.
 -- Assumes nothing.
 use Rattle.text.specs.Text.{number}
-use Rattle.text.proofs.Digits.{number-on, number_fits, number_lt}
+use Rattle.text.proofs.Digits.{number_on, number_fits, number_lt}
 use Prim.Native.Nat.{◌≤◌, ◌-◌}
 use mathlib.Core.Path.{◌≡◌, refl}
 use native.Mathlib.Omega.{arith}
@@ -55,7 +55,7 @@ loop-again c =
     let l = c.before.before.before.loop in
     let a = c.before.before.before.before.before.args in
     let d = c.digit.ensures.1 c.before.before.before.before.before.requires.0 in
-    (omega arith, omega (arith, d, number-on a.s.now a.at l.i))
+    (omega arith, omega (arith, d, number_on a.s.now a.at l.i))
 
 returns : tie.Need-returns invariant-loop decreases-loop
 returns c =
@@ -64,8 +64,8 @@ returns c =
     let v = rw e at l.invariant.1 in
     (v, rw v (number_lt _ _ _ c.before.before.before.requires.3))
 
-pub number-spec : {M : Type 1} → statement M
-number-spec =
+pub number_spec : {M : Type 1} → statement M
+number_spec =
     tie.close
     (tie.spec
     invariant-loop

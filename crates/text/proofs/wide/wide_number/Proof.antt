@@ -5,20 +5,20 @@ use mathlib.Core.Path.{◌≡◌, refl}
 use native.Mathlib.Omega.{arith}
 use lib.ListN.{get_or}
 use Rattle.text.specs.Text.{digit}
-use Rattle.text.specs.Wide.{wideNumber}
-use Rattle.text.proofs.WideNumbers.{wide-most, wide-on, wide-top}
+use Rattle.text.specs.Wide.{wide_number}
+use Rattle.text.proofs.WideNumbers.{wide_most, wide_on, wide_top}
 use borrow.Author.Rules.{rules}
 use Rattle.text.proofs.wide.wide_number.Statement.{statement}
 use Rattle.text.proofs.wide.wide_number.Tie as tie
 
 abbrev invariant-loop : tie.invariant-loop
-invariant-loop table s at n sum₀ i₀ sum i = (i ≤ n) × (sum ≡ wideNumber s at i)
+invariant-loop table s at n sum₀ i₀ sum i = (i ≤ n) × (sum ≡ wide_number s at i)
 
 abbrev decreases-loop : tie.decreases-loop
 decreases-loop table s at n sum₀ i₀ sum i = n - i
 
 loop-holds : tie.Need-loop-init invariant-loop decreases-loop
-unfolding wideNumber
+unfolding wide_number
 loop-holds c = (omega arith, refl)
 
 add-entry : tie.Need-overflow-add-entry invariant-loop decreases-loop
@@ -34,14 +34,14 @@ mul-sum : tie.Need-overflow-mul-sum invariant-loop decreases-loop
 mul-sum c =
     let l = c.before.before.before.loop in
     let a = c.before.before.before.before.before.args in
-    omega (arith, wide-top a.s.now a.at l.i (omega arith))
+    omega (arith, wide_top a.s.now a.at l.i (omega arith))
 
 add-sum : tie.Need-overflow-add-sum invariant-loop decreases-loop
 add-sum c =
     let l = c.before.before.before.loop in
     let a = c.before.before.before.before.before.args in
-    let most = wide-most (digit (get_or a.s.now (a.at + l.i) 0)) in
-    omega (arith, c.entry.ensures, most, wide-top a.s.now a.at l.i (omega arith))
+    let most = wide_most (digit (get_or a.s.now (a.at + l.i) 0)) in
+    omega (arith, c.entry.ensures, most, wide_top a.s.now a.at l.i (omega arith))
 
 add-i : tie.Need-overflow-add-i invariant-loop decreases-loop
 add-i c = search rules
@@ -53,7 +53,7 @@ loop-again : tie.Need-loop-preserved invariant-loop decreases-loop
 loop-again c =
     let l = c.before.before.before.loop in
     let a = c.before.before.before.before.before.args in
-    (omega arith, omega (arith, c.entry.ensures, wide-on a.s.now a.at l.i))
+    (omega arith, omega (arith, c.entry.ensures, wide_on a.s.now a.at l.i))
 
 returns : tie.Need-returns invariant-loop decreases-loop
 returns c =
@@ -61,8 +61,8 @@ returns c =
     let e : l.i ≡ c.before.before.before.args.n = omega arith in
     rw e at l.invariant.1
 
-pub wide-number-spec : {M : Type 1} → statement M
-wide-number-spec =
+pub wide_number_spec : {M : Type 1} → statement M
+wide_number_spec =
     tie.close
     (tie.spec
     invariant-loop

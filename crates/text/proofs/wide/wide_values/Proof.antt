@@ -8,7 +8,7 @@ use lib.ListN.{length, drop, replicate, length-set}
 use Rattle.counting.specs.Count.{tabulate}
 use Rattle.counting.proofs.Lists.{fill}
 use Rattle.text.specs.Text.{digit}
-use Rattle.text.specs.Wide.{noNumber, wide, wideValues}
+use Rattle.text.specs.Wide.{no_number, wide, wide_values}
 use Rattle.text.proofs.Digits.{value_of}
 use borrow.Author.Rules.{rules}
 use Rattle.text.proofs.wide.wide_values.Statement.{statement}
@@ -16,7 +16,7 @@ use Rattle.text.proofs.wide.wide_values.Tie as tie
 
 abbrev invariant-loop : tie.invariant-loop
 invariant-loop value table₀ b₀ table b =
-    (b ≤ 103) × (length table ≡ 256) × (table ≡ tabulate b (λ k. wide (digit k)) ++ drop b (replicate 256 noNumber))
+    (b ≤ 103) × (length table ≡ 256) × (table ≡ tabulate b (λ k. wide (digit k)) ++ drop b (replicate 256 no_number))
 
 abbrev decreases-loop : tie.decreases-loop
 decreases-loop value table₀ b₀ table b = 103 - b
@@ -50,18 +50,18 @@ loop-again c =
     let v = ap wide (value_of a.args.value.now a.requires l.b (omega arith)) in (
       omega arith,
       simp length-set l.invariant.1,
-      rw (l.invariant.2, c.wide.ensures, v) (fill (λ k. wide (digit k)) l.b (replicate 256 noNumber) (omega arith)),
+      rw (l.invariant.2, c.wide.ensures, v) (fill (λ k. wide (digit k)) l.b (replicate 256 no_number) (omega arith)),
     )
 
 returns : tie.Need-returns invariant-loop decreases-loop
-unfolding digit wide wideValues
+unfolding digit wide wide_values
 returns c =
     let l = c.before.loop in
     let e : l.b ≡ 103 = omega arith in
     rw e at l.invariant.2
 
-pub wide-values-spec : {M : Type 1} → statement M
-wide-values-spec =
+pub wide_values_spec : {M : Type 1} → statement M
+wide_values_spec =
     tie.close
     (tie.spec
     invariant-loop

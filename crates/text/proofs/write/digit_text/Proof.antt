@@ -11,5 +11,5 @@ element-copy-out-result c = search rules
 returns : tie.Need-returns
 returns c = text_of _ c.before.requires.0 _ c.before.requires.1
 
-pub digit-text-spec : {M : Type 1} → statement M
-digit-text-spec = tie.close (tie.spec element-copy-out-result returns)
+pub digit_text_spec : {M : Type 1} → statement M
+digit_text_spec = tie.close (tie.spec element-copy-out-result returns)

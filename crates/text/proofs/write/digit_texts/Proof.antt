@@ -1,13 +1,13 @@
 -- `text::write::digit_texts` meets its contract.
 -- Assumes nothing.
 use mathlib.Core.Path.{refl}
-use Rattle.text.specs.Hex.{digitOf, digitTexts}
+use Rattle.text.specs.Hex.{digit_of, digit_texts}
 use Rattle.text.proofs.write.digit_texts.Statement.{statement}
 use Rattle.text.proofs.write.digit_texts.Tie as tie
 
 returns : tie.Need-returns
-unfolding digitTexts digitOf
+unfolding digit_texts digit_of
 returns c = refl
 
-pub digit-texts-spec : {M : Type 1} → statement M
-digit-texts-spec = tie.close (tie.spec returns)
+pub digit_texts_spec : {M : Type 1} → statement M
+digit_texts_spec = tie.close (tie.spec returns)

@@ -28,8 +28,8 @@ same_length c = search rules
 returns : tie.Need-returns
 returns c = put_2 _ _ _ _ _ (omega arith) c.before.digit-text.ensures c.digit-text2.ensures
 
-pub put2-spec : {M : Type 1} → statement M
-put2-spec =
+pub put2_spec : {M : Type 1} → statement M
+put2_spec =
     tie.close
     (tie.spec
     digit-text-requires

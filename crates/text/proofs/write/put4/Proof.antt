@@ -29,7 +29,7 @@ returns c =
     let low = c.before.before.put22.ensures in
     put_both 2 2 _ _ _ _ _ high low
 
-pub put4-spec : {M : Type 1} → statement M
-put4-spec =
+pub put4_spec : {M : Type 1} → statement M
+put4_spec =
     tie.close
     (tie.spec cast-put2 put2-requires add-put2 cast-put2-2 put2-requires-2 same_length returns)

@@ -29,7 +29,7 @@ returns c =
     let low = c.before.before.put42.ensures in
     put_both 4 4 _ _ _ _ _ high low
 
-pub put8-spec : {M : Type 1} → statement M
-put8-spec =
+pub put8_spec : {M : Type 1} → statement M
+put8_spec =
     tie.close
     (tie.spec cast-put4 put4-requires add-put4 cast-put4-2 put4-requires-2 same_length returns)

@@ -44,8 +44,8 @@ use Rattle.counting.specs.contracts.Position as P
 use Rattle.counting.proofs.Position.TheLaws as P'
 use Rattle.walker.specs.Walk.{opened}
 use Rattle.walker.specs.declared.Walker.{Walker}
-use Rattle.walker.proofs.Held.{lifetime, PositionT, value, position-vals, position-typed, position-makes}
-use Rattle.walker.proofs.MirSteps.{Callee, Known, here, one_local, two-locals, twice, calls-known, frees-at}
+use Rattle.walker.proofs.Held.{lifetime, PositionT, value, position_vals, position_typed, position_makes}
+use Rattle.walker.proofs.MirSteps.{Callee, Known, here, one_local, two_locals, twice, calls_known, frees_at}
 use Rattle.walker.specs.contracts.Walker as T
 use Rattle.walker.proofs.Walker.TheLaws as T'
 use Rattle.walker.specs.contracts.opened as callee
@@ -63,8 +63,8 @@ stayed = (stay_none_slice (0 ∷ []) tt (plain (λ _. u8)) yes, tt)
 abbrev first : Position
 first = record { 0 = 0 }
 
-first-is : Is PositionT first (position-vals first)
-first-is = LL.owes P.the_type P'.the_laws first ((refl, lit< tt), tt)
+first_is : Is PositionT first (position_vals first)
+first_is = LL.owes P.the_type P'.the_laws first ((refl, lit< tt), tt)
 
 module _ {M : Type 1} {𝓤 : Ura M} (𝓛 : Logic 𝓤) (mem : Memory → SProp 𝓤) (run : Routine → Fun 𝓤) where
   open 𝓛 use {H}
@@ -76,11 +76,11 @@ module _ {M : Type 1} {𝓤 : Ura M} (𝓛 : Logic 𝓤) (mem : Memory → SProp
   body C Λ = WpFn 𝓤 H C Λ code.function
 
   -- the contract that the proof cites
-  abbrev opened-clauses : Clauses 𝓤 callee.ended
-  opened-clauses = callee.clauses 𝓛 mem run
+  abbrev opened_clauses : Clauses 𝓤 callee.ended
+  opened_clauses = callee.clauses 𝓛 mem run
 
   abbrev Opened : Contract 𝓤
-  Opened = Callee 𝓛 callee.ended opened-clauses
+  Opened = Callee 𝓛 callee.ended opened_clauses
 
   module _ (κ : Lft) (q : Share) (s : Bor (List ℕ)) where
     abbrev α : NamedLft
@@ -122,8 +122,8 @@ module _ {M : Type 1} {𝓤 : Ura M} (𝓛 : Logic 𝓤) (mem : Memory → SProp
     abbrev Found : Bor (List ℕ) → Type 0
     Found r = (r.now ≡ opened s.now) × (r.ref_ptr ≡ s.ref_ptr)
 
-    abbrev opened-known : Known 𝓛 callee.ended opened-clauses bound tt
-    opened-known = record { vals = shr_slice_vals; tells = shr_slice_Tells (named 0) κ u8; says = Found; stated = λ r e. id⊢ 𝓤 _ }
+    abbrev opened_known : Known 𝓛 callee.ended opened_clauses bound tt
+    opened_known = record { vals = shr_slice_vals; tells = shr_slice_Tells (named 0) κ u8; says = Found; stated = λ r e. id⊢ 𝓤 _ }
 
     abbrev made : Bor (List ℕ) → Walker
     made r = record { ticket = r; next = first }
@@ -135,38 +135,38 @@ module _ {M : Type 1} {𝓤 : Ura M} (𝓛 : Logic 𝓤) (mem : Memory → SProp
         says ! (record { bytes = found.0; position = refl }, found.1) $
         move ! (1 ∷ []) $ frame ! $ nothing ! $ move ! (2 ∷ 0 ∷ []) $ fjoin ! $ frame ! $
         -- [what the result's slice owns]
-        nothing ! $ owned ! PositionT (Is PositionT) (position-makes 𝓛) first _ first-is $ fjoin ! $
+        nothing ! $ owned ! PositionT (Is PositionT) (position_makes 𝓛) first _ first_is $ fjoin ! $
         move ! (1 ∷ 0 ∷ []) $ fjoin ! $ by ! (own_shut 𝓛 (T.the_type α) (T'.the_laws α) (r, (first, tt)))
 
     module _ (C : Calls 𝓤 H) (Λ : Loops 𝓤 H) (fm : FmC 𝓤 H 𝓛.laws C) (met : Triple 𝓤 (C #walker·opened) Opened) where
       walk : Is R s (value s ∷ []) → ent 𝓤 Entry (body C Λ (value s ∷ []) Post)
       walk s-is =
           let s_Typed = ((shr_slice_Lawful 𝓛 (named 0) κ u8).typed s (value s ∷ []) s-is).0 in
-          let first-typed = position-typed 𝓛 first first-is in
+          let first-typed = position_typed 𝓛 first first_is in
           qed 𝓛 (raw Entry ∷ []) ∵ enter ! C Λ code.function (value s ∷ []) _ $
           alloc1 ! (λ _. alloc1 ! (λ _. alloc1 ! (λ _. alloc1 ! (λ _. alloc0 ! $ params1 ! $ pass1 ! (init ! 4 refl s_Typed) $ pass0 ! $
           move ! (8 ∷ []) $ use1 𝓛 (raw (Opened.pre (bound, tt)) ⊛ ‵ (Own s)) goes $ split ! $
-          calls-known ! fm callee.ended opened-clauses met bound tt opened-known (one_local ! 6 refl) (λ r found r-is.
+          calls_known ! fm callee.ended opened_clauses met bound tt opened_known (one_local ! 6 refl) (λ r found r-is.
           -- [the result; the token; what ticket owns; room for _3; …; room for _2; …; _1; …; room for _0; …]
           let r-typed = ((shr_slice_Lawful 𝓛 (named 0) κ u8).typed r (value r ∷ []) r-is).0 in
           land ! (here !) (init ! 5 refl ((shr_slice_Lawful 𝓛 erased κ u8).typed r (value r ∷ []) r-is).0) $
           assigns ! (agg ! (and_then ! (lit ! tt) (no_more !))) (here !) (init ! 3 refl first-typed) $
-          assigns ! (agg ! (two-locals ! 5 3 refl refl)) (here !) (init ! 9 refl (tt, (r-typed.1, (first-typed.1, tt)))) $
-          returns ! (look ! 9 refl) $ frees-at ! 9 refl refl $ frees-at ! 7 refl refl $ frees-at ! 5 refl refl $ frees-at ! 3 refl refl $
+          assigns ! (agg ! (two_locals ! 5 3 refl refl)) (here !) (init ! 9 refl (tt, (r-typed.1, (first-typed.1, tt)))) $
+          returns ! (look ! 9 refl) $ frees_at ! 9 refl refl $ frees_at ! 7 refl refl $ frees_at ! 5 refl refl $ frees_at ! 3 refl refl $
           free0 ! $ by ! (exits r found))))))
 
-  start-walks : (C : Calls 𝓤 H) (Λ : Loops 𝓤 H) → FmC 𝓤 H 𝓛.laws C → Triple 𝓤 (C #walker·opened) Opened
+  start_walks : (C : Calls 𝓤 H) (Λ : Loops 𝓤 H) → FmC 𝓤 H 𝓛.laws C → Triple 𝓤 (C #walker·opened) Opened
       → Walks 𝓛 start.ended stayed (body C Λ) clauses
-  start-walks C Λ fm met =
+  start_walks C Λ fm met =
       walked 𝓛 start.ended stayed clauses (body C Λ) (λ κs. (shr_slice_vals, tt)) (λ κs. (shr_slice_Tells (named 0) κs.0 u8, tt))
       (λ κs qs bounds a g are. via 𝓤 _ (fst∗ 𝓤 _ (emp 𝓤)) (walk κs.0 qs.0 a.0 C Λ fm met are.0))
 
-  start-meets : (𝓣 : Tables 𝓤 H) → Triple 𝓤 (𝓣.C #walker·opened) Opened
+  start_meets : (𝓣 : Tables 𝓤 H) → Triple 𝓤 (𝓣.C #walker·opened) Opened
       → Meets 𝓛 start.signature (body 𝓣.C 𝓣.Λ) (start.spec 𝓛 mem run)
-  start-meets 𝓣 met =
+  start_meets 𝓣 met =
       walk_Meets 𝓛 start.ended stayed (Goes-none_slice 𝓛 1 (0 ∷ []) tt (plain (λ _. u8)) yes, tt) clauses
       (body 𝓣.C 𝓣.Λ) (WpFn-mono 𝓤 H 𝓛.laws 𝓣 code.function)
-      (start-walks 𝓣.C 𝓣.Λ (fm_of 𝓤 H 𝓛.laws 𝓣) met)
+      (start_walks 𝓣.C 𝓣.Λ (fm_of 𝓤 H 𝓛.laws 𝓣) met)
 
 pub start_spec : {M : Type 1} → stated.statement M
 unfolding code.routine tables_of
@@ -175,5 +175,5 @@ start_spec 𝓤 𝓛 𝓜 𝓡 =
     let OpenedThere = Opened 𝓛 𝓜.mem 𝓡.run in
     entered 𝓤 𝓛.H (triple_of 𝓛 start.signature (start.spec 𝓛 𝓜.mem 𝓡.run))
     machine.C machine.Λ #walker·start code.function (code.unfolded 𝓤 𝓛.H 𝓜 𝓡)
-    (start-meets 𝓛 𝓜.mem 𝓡.run (tables_of 𝓤 𝓛.H 𝓜 machine)
+    (start_meets 𝓛 𝓜.mem 𝓡.run (tables_of 𝓤 𝓛.H 𝓜 machine)
     (cited 𝓤 𝓛.H OpenedThere 𝓜 𝓡 code.env #walker·opened callee-def.routine code.calls-walker::opened (callee-thm.met 𝓤 𝓛 𝓜 𝓡)))

@@ -41,12 +41,12 @@ use denote.Triple.Walked.{says, Stays, stay_none, walk_of, Goes-none, Walks, end
 use denote.Exit.{yes}
 use Rattle.counting.specs.declared.Position.{Position}
 use Rattle.ticket.specs.Part.{address}
-use Rattle.walker.specs.Walk.{next_at, gives, givesFrom, moved_to}
+use Rattle.walker.specs.Walk.{next_at, gives, gives_from, moved_to}
 use Rattle.walker.specs.declared.Walker.{Walker}
 use Rattle.walker.specs.declared.Stepped.{Stepped}
-use Rattle.walker.proofs.Held.{lifetime, WalkerT, PositionT, value, walker-vals, position-vals, walker-tells, position-tells}
-use Rattle.walker.proofs.Held.{walker-typed, position-typed, walker-copy, position-makes}
-use Rattle.walker.proofs.MirSteps.{Callee, Known, here, two-locals, a-field, own-field, twice, calls-known, frees-at}
+use Rattle.walker.proofs.Held.{lifetime, WalkerT, PositionT, value, walker_vals, position_vals, walker_tells, position_tells}
+use Rattle.walker.proofs.Held.{walker_typed, position_typed, walker_copy, position_makes}
+use Rattle.walker.proofs.MirSteps.{Callee, Known, here, two_locals, a_field, own_field, twice, calls_known, frees_at}
 use Rattle.walker.specs.contracts.Walker as T
 use Rattle.walker.proofs.Walker.TheLaws as T'
 use Rattle.walker.specs.contracts.Stepped as U
@@ -77,19 +77,19 @@ module _ {M : Type 1} {𝓤 : Ura M} (𝓛 : Logic 𝓤) (mem : Memory → SProp
   body C Λ = WpFn 𝓤 H C Λ code.function
 
   -- the contracts that the proof cites
-  abbrev line-clauses : Clauses 𝓤 line.ended
-  line-clauses = line.clauses 𝓛 mem run
+  abbrev line_clauses : Clauses 𝓤 line.ended
+  line_clauses = line.clauses 𝓛 mem run
 
   abbrev LineAt : Contract 𝓤
-  LineAt = Callee 𝓛 line.ended line-clauses
+  LineAt = Callee 𝓛 line.ended line_clauses
 
-  abbrev next-clauses : Clauses 𝓤 next.ended
-  next-clauses = next.clauses 𝓛 mem run
+  abbrev next_clauses : Clauses 𝓤 next.ended
+  next_clauses = next.clauses 𝓛 mem run
 
   abbrev NextAt : Contract 𝓤
-  NextAt = Callee 𝓛 next.ended next-clauses
+  NextAt = Callee 𝓛 next.ended next_clauses
 
-  module _ (κ : Lft) (q : Share) (d : Walker) (d-is : Is (WalkerT (κ, tt)) d (walker-vals d)) where
+  module _ (κ : Lft) (q : Share) (d : Walker) (d-is : Is (WalkerT (κ, tt)) d (walker_vals d)) where
     abbrev α : NamedLft
     α = lifetime (κ, tt)
 
@@ -108,17 +108,17 @@ module _ {M : Type 1} {𝓤 : Ura M} (𝓛 : Logic 𝓤) (mem : Memory → SProp
 
     -- what `step` is passed
     abbrev bound : Bound 𝓛 step.signature
-    bound = ((κ, tt), (q, tt), tt, (d, tt), (walker-vals d, tt))
+    bound = ((κ, tt), (q, tt), tt, (d, tt), (walker_vals d, tt))
 
     abbrev Entry : SProp 𝓤
-    Entry = on_entry 𝓛 step.signature (κ, tt) (q, tt) (d, tt) (walker-vals d, tt)
+    Entry = on_entry 𝓛 step.signature (κ, tt) (q, tt) (d, tt) (walker_vals d, tt)
 
     abbrev Post : Val → SProp 𝓤
     Post = (walk_of 𝓛 step.ended stayed clauses).post (bound, tt)
 
     -- what both callees are passed
     abbrev passed : Vals line.signature (κ, tt)
-    passed = (value d.ticket ∷ [], (position-vals d.next, tt))
+    passed = (value d.ticket ∷ [], (position_vals d.next, tt))
 
     abbrev to : Bound 𝓛 line.signature
     to = ((κ, tt), (q, tt), tt, fields, passed)
@@ -131,48 +131,48 @@ module _ {M : Type 1} {𝓤 : Ura M} (𝓛 : Logic 𝓤) (mem : Memory → SProp
     token = raw (alive 𝓛 step.signature (κ, tt) (q, tt))
 
     abbrev Own : Fml
-    Own = (WalkerT (κ, tt)).own_val d (walker-vals d)
+    Own = (WalkerT (κ, tt)).own_val d (walker_vals d)
 
     abbrev OwnLine : Bor (List ℕ) → Fml
     OwnLine r = R.own_val r (value r ∷ [])
 
     abbrev OwnNext : Position → Fml
-    OwnNext n = PositionT.own_val n (position-vals n)
+    OwnNext n = PositionT.own_val n (position_vals n)
 
-    line-asked : ent 𝓤 Passed (LineAt.pre (to, tt))
-    line-asked = qed 𝓛 (token ∷ ‵ (owns (R ∷ PositionT ∷ []) fields passed) ∷ []) ∵ join ! $ frame ! $ done !
+    line_asked : ent 𝓤 Passed (LineAt.pre (to, tt))
+    line_asked = qed 𝓛 (token ∷ ‵ (owns (R ∷ PositionT ∷ []) fields passed) ∷ []) ∵ join ! $ frame ! $ done !
 
-    next-asked : ent 𝓤 Passed (NextAt.pre (to, tt))
-    next-asked = qed 𝓛 (token ∷ ‵ (owns (R ∷ PositionT ∷ []) fields passed) ∷ []) ∵ join ! $ frame ! $ done !
+    next_asked : ent 𝓤 Passed (NextAt.pre (to, tt))
+    next_asked = qed 𝓛 (token ∷ ‵ (owns (R ∷ PositionT ∷ []) fields passed) ∷ []) ∵ join ! $ frame ! $ done !
 
     -- what the walker owns gives what a callee asks, and is kept
     apart : (Pre : SProp 𝓤) → ent 𝓤 Passed Pre → ent 𝓤 (⋆ 𝓛 (token ∷ ‵ Own ∷ [])) (sep 𝓤 Pre (sem 𝓛 Own))
     apart Pre asked =
-        let next-is = (LL.owed D L d (walker-vals d) d-is).1.0 in
+        let next-is = (LL.owed D L d (walker_vals d) d-is).1.0 in
         qed 𝓛 (token ∷ ‵ Own ∷ []) ∵
-        move ! (1 ∷ []) $ twice ! (WalkerT (κ, tt)) d (walker-vals d) (walker-copy 𝓛 (κ, tt)) $
-        use1 𝓛 (‵ (OwnLine d.ticket)) (own-field 𝓛 D L 0 fields (T'.lowered d)) $
+        move ! (1 ∷ []) $ twice ! (WalkerT (κ, tt)) d (walker_vals d) (walker_copy 𝓛 (κ, tt)) $
+        use1 𝓛 (‵ (OwnLine d.ticket)) (own_field 𝓛 D L 0 fields (T'.lowered d)) $
         -- [what ticket owns; what the struct owns; the token]
-        nothing ! $ owned ! PositionT (Is PositionT) (position-makes 𝓛) d.next _ next-is $ fjoin ! $ move ! (1 ∷ 0 ∷ []) $ fjoin ! $
+        nothing ! $ owned ! PositionT (Is PositionT) (position_makes 𝓛) d.next _ next-is $ fjoin ! $ move ! (1 ∷ 0 ∷ []) $ fjoin ! $
         move ! (2 ∷ 0 ∷ []) $ use2 𝓛 (raw Pre) asked $ frame ! $ done !
 
     enters : ent 𝓤 Entry (sep 𝓤 (LineAt.pre (to, tt)) (sem 𝓛 Own))
     enters =
-        qed 𝓛 (token ∷ ‵ (owns (WalkerT (κ, tt) ∷ []) (d, tt) (walker-vals d, tt)) ∷ []) ∵
-        move ! (1 ∷ []) $ fsplit ! $ move ! (1 ∷ []) $ drop ! $ move ! (1 ∷ 0 ∷ []) $ by ! (apart (LineAt.pre (to, tt)) line-asked)
+        qed 𝓛 (token ∷ ‵ (owns (WalkerT (κ, tt) ∷ []) (d, tt) (walker_vals d, tt)) ∷ []) ∵
+        move ! (1 ∷ []) $ fsplit ! $ move ! (1 ∷ []) $ drop ! $ move ! (1 ∷ 0 ∷ []) $ by ! (apart (LineAt.pre (to, tt)) line_asked)
 
     -- what is known of the callees' results
     abbrev FoundLine : Bor (List ℕ) → Type 0
-    FoundLine r = (r.now ≡ gives d) × (r.ref_ptr ≡ address d.ticket.ptr (givesFrom d))
+    FoundLine r = (r.now ≡ gives d) × (r.ref_ptr ≡ address d.ticket.ptr (gives_from d))
 
-    abbrev line_known : Known 𝓛 line.ended line-clauses to tt
+    abbrev line_known : Known 𝓛 line.ended line_clauses to tt
     line_known = record { vals = shr_slice_vals; tells = shr_slice_Tells (named 0) κ u8; says = FoundLine; stated = λ r e. id⊢ 𝓤 _ }
 
     abbrev FoundNext : Position → Type 0
     FoundNext n = n.0 ≡ next_at d.ticket.now d.next.0
 
-    abbrev next_known : Known 𝓛 next.ended next-clauses to tt
-    next_known = record { vals = position-vals; tells = position-tells; says = FoundNext; stated = λ n e. id⊢ 𝓤 _ }
+    abbrev next_known : Known 𝓛 next.ended next_clauses to tt
+    next_known = record { vals = position_vals; tells = position_tells; says = FoundNext; stated = λ n e. id⊢ 𝓤 _ }
 
     abbrev made : Bor (List ℕ) → Position → Stepped
     made r n = record { line = r; walker = moved_to d n }
@@ -187,60 +187,60 @@ module _ {M : Type 1} {𝓤 : Ura M} (𝓛 : Logic 𝓤) (mem : Memory → SProp
         qed 𝓛 (left r n) ∵
         suffices ! _ (ends_at 𝓛 step.ended stayed clauses (bound, tt) (U'.lowered (made r n)) (made r n) (tt, tt) (tt, tt)) $
         says ! (found-line.0, found-line.1, moved) $
-        move ! (1 ∷ []) $ frame ! $ move ! (1 ∷ []) $ twice ! (WalkerT (κ, tt)) d (walker-vals d) (walker-copy 𝓛 (κ, tt)) $
+        move ! (1 ∷ []) $ frame ! $ move ! (1 ∷ []) $ twice ! (WalkerT (κ, tt)) d (walker_vals d) (walker_copy 𝓛 (κ, tt)) $
         nothing ! $ move ! (1 ∷ 0 ∷ []) $ fjoin ! $ frame ! $
         -- [what the walker passed owns; what the position owns; what the line owns]
-        use2 𝓛 (‵ ((WalkerT (κ, tt)).own_val (moved_to d n) (walker-vals (moved_to d n)))) (own_put 𝓛 D L 1 fields n (T'.lowered d)) $
+        use2 𝓛 (‵ ((WalkerT (κ, tt)).own_val (moved_to d n) (walker_vals (moved_to d n)))) (own_put 𝓛 D L 1 fields n (T'.lowered d)) $
         nothing ! $ move ! (1 ∷ 0 ∷ []) $ fjoin ! $ move ! (1 ∷ 0 ∷ []) $ fjoin ! $
         by ! (own_shut 𝓛 (U.the_type α) (U'.the_laws α) (r, (moved_to d n, tt)))
 
     module _ (C : Calls 𝓤 H) (Λ : Loops 𝓤 H) (fm : FmC 𝓤 H 𝓛.laws C) where
-      walk : Triple 𝓤 (C #walker·line-at) LineAt → Triple 𝓤 (C #walker·next-at) NextAt → ent 𝓤 Entry (body C Λ (walker-vals d) Post)
+      walk : Triple 𝓤 (C #walker·line-at) LineAt → Triple 𝓤 (C #walker·next-at) NextAt → ent 𝓤 Entry (body C Λ (walker_vals d) Post)
       walk line-met next-met =
-          let d-typed = walker-typed 𝓛 α d d-is in
+          let d-typed = walker_typed 𝓛 α d d-is in
           let ticket-typed = d-typed.1.0 in
           let next-typed = d-typed.1.1.0 in
-          qed 𝓛 (raw Entry ∷ []) ∵ enter ! C Λ code.function (walker-vals d) _ $
+          qed 𝓛 (raw Entry ∷ []) ∵ enter ! C Λ code.function (walker_vals d) _ $
           alloc1 ! (λ _. alloc1 ! (λ _. alloc1 ! (λ _. alloc1 ! (λ _. alloc1 ! (λ _.
           alloc1 ! (λ _. alloc1 ! (λ _. alloc1 ! (λ _. alloc1 ! (λ _. alloc1 ! (λ _. alloc0 ! $
           params1 ! $ pass1 ! (init ! 16 refl d-typed) $ pass0 ! $
-          assigns ! (a-field ! 16 refl refl refl) (here !) (init ! 12 refl (tt, ticket-typed)) $
-          assigns ! (a-field ! 16 refl refl refl) (here !) (init ! 10 refl (tt, next-typed)) $
+          assigns ! (a_field ! 16 refl refl refl) (here !) (init ! 12 refl (tt, ticket-typed)) $
+          assigns ! (a_field ! 16 refl refl refl) (here !) (init ! 10 refl (tt, next-typed)) $
           move ! (20 ∷ []) $ use1 𝓛 (raw (LineAt.pre (to, tt)) ⊛ ‵ Own) enters $ split ! $
           -- [what `line_at` asks; what the struct owns; room for _9; …; _8; …; _7; …; _6; …; _5; …; _4; …; _3; …; _2; …; _1; …; _0; …]
-          calls-known ! fm line.ended line-clauses line-met to tt line_known (two-locals ! 14 12 refl refl) (λ r found-line r-is.
+          calls_known ! fm line.ended line_clauses line-met to tt line_known (two_locals ! 14 12 refl refl) (λ r found-line r-is.
           -- [the line; the token; what the struct owns; room for _9; …]
           let r-typed = ((shr_slice_Lawful 𝓛 (named 0) κ u8).typed r (value r ∷ []) r-is).0 in
           land ! (here !) (init ! 17 refl ((shr_slice_Lawful 𝓛 erased κ u8).typed r (value r ∷ []) r-is).0) $
-          assigns ! (a-field ! 19 refl refl refl) (here !) (init ! 11 refl (tt, ticket-typed)) $
-          assigns ! (a-field ! 19 refl refl refl) (here !) (init ! 7 refl (tt, ticket-typed)) $
-          assigns ! (a-field ! 19 refl refl refl) (here !) (init ! 5 refl (tt, next-typed)) $
-          move ! (1 ∷ 2 ∷ []) $ use2 𝓛 (raw (NextAt.pre (to, tt)) ⊛ ‵ Own) (apart (NextAt.pre (to, tt)) next-asked) $ split ! $
+          assigns ! (a_field ! 19 refl refl refl) (here !) (init ! 11 refl (tt, ticket-typed)) $
+          assigns ! (a_field ! 19 refl refl refl) (here !) (init ! 7 refl (tt, ticket-typed)) $
+          assigns ! (a_field ! 19 refl refl refl) (here !) (init ! 5 refl (tt, next-typed)) $
+          move ! (1 ∷ 2 ∷ []) $ use2 𝓛 (raw (NextAt.pre (to, tt)) ⊛ ‵ Own) (apart (NextAt.pre (to, tt)) next_asked) $ split ! $
           -- [what `next_at` asks; what the struct owns; the line; room for _9; …]
-          calls-known ! fm next.ended next-clauses next-met to tt next_known (two-locals ! 7 5 refl refl) (λ n found-next n-is.
+          calls_known ! fm next.ended next_clauses next-met to tt next_known (two_locals ! 7 5 refl refl) (λ n found-next n-is.
           -- [the position; the token; what the struct owns; the line; room for _9; …]
-          let n-typed = position-typed 𝓛 n n-is in
+          let n-typed = position_typed 𝓛 n n-is in
           land ! (here !) (init ! 10 refl n-typed) $
-          assigns ! (agg ! (two-locals ! 12 10 refl refl)) (here !) (init ! 4 refl (tt, (ticket-typed, (n-typed.1, tt)))) $
-          assigns ! (agg ! (two-locals ! 18 4 refl refl)) (here !) (init ! 22 refl (tt, (r-typed.1, ((ticket-typed, (n-typed.1, tt)), tt)))) $
+          assigns ! (agg ! (two_locals ! 12 10 refl refl)) (here !) (init ! 4 refl (tt, (ticket-typed, (n-typed.1, tt)))) $
+          assigns ! (agg ! (two_locals ! 18 4 refl refl)) (here !) (init ! 22 refl (tt, (r-typed.1, ((ticket-typed, (n-typed.1, tt)), tt)))) $
           returns ! (look ! 22 refl) $
-          frees-at ! 22 refl refl $ frees-at ! 20 refl refl $ frees-at ! 18 refl refl $ frees-at ! 16 refl refl $ frees-at ! 14 refl refl $
-          frees-at ! 12 refl refl $ frees-at ! 10 refl refl $ frees-at ! 8 refl refl $ frees-at ! 6 refl refl $ frees-at ! 4 refl refl $
+          frees_at ! 22 refl refl $ frees_at ! 20 refl refl $ frees_at ! 18 refl refl $ frees_at ! 16 refl refl $ frees_at ! 14 refl refl $
+          frees_at ! 12 refl refl $ frees_at ! 10 refl refl $ frees_at ! 8 refl refl $ frees_at ! 6 refl refl $ frees_at ! 4 refl refl $
           free0 ! $ by ! (exits r n found-line found-next)))))))))))))
 
-  step-walks : (C : Calls 𝓤 H) (Λ : Loops 𝓤 H) → FmC 𝓤 H 𝓛.laws C
+  step_walks : (C : Calls 𝓤 H) (Λ : Loops 𝓤 H) → FmC 𝓤 H 𝓛.laws C
       → Triple 𝓤 (C #walker·line-at) LineAt → Triple 𝓤 (C #walker·next-at) NextAt
       → Walks 𝓛 step.ended stayed (body C Λ) clauses
-  step-walks C Λ fm line-met next-met =
-      walked 𝓛 step.ended stayed clauses (body C Λ) (λ κs. (walker-vals, tt)) (λ κs. (walker-tells κs, tt))
+  step_walks C Λ fm line-met next-met =
+      walked 𝓛 step.ended stayed clauses (body C Λ) (λ κs. (walker_vals, tt)) (λ κs. (walker_tells κs, tt))
       (λ κs qs bounds a g are. via 𝓤 _ (fst∗ 𝓤 _ (emp 𝓤)) (walk κs.0 qs.0 a.0 are.0 C Λ fm line-met next-met))
 
-  step-meets : (𝓣 : Tables 𝓤 H) → Triple 𝓤 (𝓣.C #walker·line-at) LineAt → Triple 𝓤 (𝓣.C #walker·next-at) NextAt
+  step_meets : (𝓣 : Tables 𝓤 H) → Triple 𝓤 (𝓣.C #walker·line-at) LineAt → Triple 𝓤 (𝓣.C #walker·next-at) NextAt
       → Meets 𝓛 step.signature (body 𝓣.C 𝓣.Λ) (step.spec 𝓛 mem run)
-  step-meets 𝓣 line-met next-met =
+  step_meets 𝓣 line-met next-met =
       walk_Meets 𝓛 step.ended stayed (Goes-none 𝓛 1 WalkerT yes (λ κs x f. refl), tt) clauses
       (body 𝓣.C 𝓣.Λ) (WpFn-mono 𝓤 H 𝓛.laws 𝓣 code.function)
-      (step-walks 𝓣.C 𝓣.Λ (fm_of 𝓤 H 𝓛.laws 𝓣) line-met next-met)
+      (step_walks 𝓣.C 𝓣.Λ (fm_of 𝓤 H 𝓛.laws 𝓣) line-met next-met)
 
 pub step_spec : {M : Type 1} → stated.statement M
 unfolding code.routine tables_of
@@ -250,6 +250,6 @@ step_spec 𝓤 𝓛 𝓜 𝓡 =
     let NextThere = NextAt 𝓛 𝓜.mem 𝓡.run in
     entered 𝓤 𝓛.H (triple_of 𝓛 step.signature (step.spec 𝓛 𝓜.mem 𝓡.run))
     machine.C machine.Λ #walker·step code.function (code.unfolded 𝓤 𝓛.H 𝓜 𝓡)
-    (step-meets 𝓛 𝓜.mem 𝓡.run (tables_of 𝓤 𝓛.H 𝓜 machine)
+    (step_meets 𝓛 𝓜.mem 𝓡.run (tables_of 𝓤 𝓛.H 𝓜 machine)
     (cited 𝓤 𝓛.H LineThere 𝓜 𝓡 code.env #walker·line-at line-def.routine code.calls-walker::line-at (line-thm.met 𝓤 𝓛 𝓜 𝓡))
     (cited 𝓤 𝓛.H NextThere 𝓜 𝓡 code.env #walker·next-at next-def.routine code.calls-walker::next-at (next-thm.met 𝓤 𝓛 𝓜 𝓡)))
