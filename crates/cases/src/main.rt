@@ -1,5 +1,7 @@
 // Runs document 01's cases and boundaries, and every refusal through every call that gives it, and prints inputs and results.
 // The cases stand in tables, which the program reads from standard input: the file `stdin` beside src/. `tables` says how they are written.
+#![tactic(auto)]
+
 mod checks;
 mod counts;
 mod docks;

@@ -1,4 +1,6 @@
 // The checker: whether a plan that anyone made for a ticket meets the paper's conditions, and if not, where.
+#![tactic(auto)]
+
 ghost use Rattle.std.specs.Prelude.{◌≡◌, take};
 ghost use Rattle.ticket.specs.Ticket.{accepted, parse};
 ghost use Rattle.ticket.specs.Grounds.{Fits};
@@ -13,7 +15,7 @@ use header::{Header, limits};
 
 // A valid plan has T and, for a read, the peak of its run on a dock with a buffer for every frame: the buffers that it needs, so that it is valid
 // for every pool from there on. Otherwise the lowest position at fault is named with the first of its faults; or the call is refused.
-#[derive(Drop)]
+#[derive(Clone, Copy)]
 pub enum Verdict {
     Valid(Cycle, u16),
     NoCycle(Position),

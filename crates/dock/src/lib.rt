@@ -1,4 +1,6 @@
 // The dock of document 01 as code, driven one step at a time. crates/dock_start starts it for a ticket's list.
+#![tactic(auto)]
+
 ghost use Rattle.std.specs.Prelude.{◌≡◌};
 ghost use Rattle.dock.specs.State.{new_dock};
 ghost use Rattle.dock.specs.Drive.{drive_of, memory_driven, Follows};
@@ -9,7 +11,7 @@ use counting::Position;
 use header::limits;
 
 // A step. Positions past the list are against the rules.
-#[derive(Drop)]
+#[derive(Clone, Copy)]
 pub enum Step {
     Read(Position),
     Drop(Position),
@@ -17,7 +19,7 @@ pub enum Step {
 }
 
 // What the dock keeps, but for the frames held: they are marked in lent memory, one byte for each frame.
-#[derive(Drop)]
+#[derive(Clone, Copy)]
 pub struct Dock {
     pub frames: u16,
     pub pool: u16,
@@ -31,7 +33,7 @@ pub struct Dock {
 }
 
 // The dock after a call, and the number of a refusal, 0 for none.
-#[derive(Drop)]
+#[derive(Clone, Copy)]
 pub struct Driven {
     pub refusal: u8,
     pub dock: Dock,

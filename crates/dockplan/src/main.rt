@@ -1,5 +1,7 @@
 // The program: prints the plan of the ticket on standard input, or its refusal.
 // A ticket is settled by the bytes that the input buffer holds (`front_settles`, crates/printing/proofs/Main.antt), and no more are looked at.
+#![tactic(auto)]
+
 use libc::{STDIN_FILENO, STDOUT_FILENO};
 
 fn main() {

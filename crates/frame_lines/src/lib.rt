@@ -1,4 +1,6 @@
 // The frame lines of a ticket: each frame's card, the refusals 7, 8, 17 and 9, and how many frames each card has.
+#![tactic(auto)]
+
 ghost use Rattle.std.specs.Prelude.{◌≡◌, true, ◌+◌, ◌*◌, ◌≤◌, length};
 ghost use Rattle.text.specs.Text.{digit_values, is_line};
 ghost use Rattle.header.specs.Editions.{line_digits, line_bytes};

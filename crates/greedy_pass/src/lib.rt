@@ -1,5 +1,7 @@
 // greedy_writing in one pass over the list: a frame's cycle is known when the frame enters. The theory that makes one pass enough is in
 // proofs/: Assigned, Due, Shown and Process.
+#![tactic(auto)]
+
 ghost use Rattle.std.specs.Prelude.{◌≡◌, ◌+◌, ◌≤◌, ◌<◌, max, length};
 ghost use Rattle.counting.specs.Count.{largest};
 ghost use Rattle.header.specs.Limits.{max_cards, max_frames};
@@ -52,7 +54,7 @@ fn largest(latest: &[u16; limits::CARDS]) -> Cycle
 }
 
 // The cycles made when the last frame has entered, and with the closing cycles.
-#[derive(Drop)]
+#[derive(Clone, Copy)]
 pub struct Cycles {
     pub made: Cycle,
     pub all: Cycle,

@@ -1,4 +1,6 @@
 // The header of a ticket: refusals 1 to 6.
+#![tactic(auto)]
+
 ghost use Rattle.std.specs.Prelude.{◌≡◌};
 ghost use Rattle.text.specs.Text.{digit_values};
 ghost use Rattle.header.specs.Heading.{within_limits, header_answer, heading};
@@ -8,7 +10,7 @@ pub mod editions;
 pub mod limits;
 
 // What stands in the header.
-#[derive(Drop)]
+#[derive(Clone, Copy)]
 pub struct Header {
     pub edition: u8,
     pub mode: u8,
@@ -18,7 +20,7 @@ pub struct Header {
 }
 
 // An accepted header, or the number of a refusal.
-#[derive(Drop)]
+#[derive(Clone, Copy)]
 pub enum Answer {
     Accepted(Header),
     Refused(u8),

@@ -1,4 +1,6 @@
 // A field hub: 1 to 6 cameras gathered onto eight cards.
+#![tactic(auto)]
+
 ghost use Rattle.std.specs.Prelude.{◌≡◌, true, ◌+◌, ◌≤◌, length};
 ghost use Rattle.counting.specs.Count.{largest, written};
 ghost use Rattle.hub.specs.Fullest.{Gathering};
@@ -15,7 +17,7 @@ mod patterns;
 mod words;
 
 // So many cards given, or the number of a refusal.
-#[derive(Drop)]
+#[derive(Clone, Copy)]
 pub enum Answer {
     Gathered(u16),
     Refused(u8),

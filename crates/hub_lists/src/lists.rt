@@ -7,7 +7,7 @@ pub(crate) const FRAMES: usize = 24;
 pub(crate) const CAMERAS: usize = 6;
 
 // A list of so many frames of so many cameras, in runs of so many of one camera, by its number; and the number of the choice of patterns.
-#[derive(Drop)]
+#[derive(Clone, Copy)]
 pub(crate) struct Case {
     pub(crate) cameras: u64,
     pub(crate) frames: u64,

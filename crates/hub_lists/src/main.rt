@@ -1,6 +1,8 @@
 // The hub's compiled code against definitions written anew from request 2026-06, for all short lists of cameras: the answer, every card and the
 // places behind them; and for tickets of these cards, planned as a read and as a save, T against the load of the fullest card. Writes what was
 // covered and what differed.
+#![tactic(auto)]
+
 mod compare;
 mod lists;
 mod report;

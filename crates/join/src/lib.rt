@@ -1,4 +1,6 @@
 // One showing from two tickets: two edition 02 read tickets are joined into one, sorted by capture second.
+#![tactic(auto)]
+
 ghost use Rattle.std.specs.Prelude.{◌≡◌, ◌≤◌, length};
 ghost use Rattle.std.proofs.lemmas.List.Edits.{sets};
 ghost use Rattle.header.specs.Heading.{header_bytes};
@@ -11,7 +13,7 @@ ghost use Rattle.join.specs.Steps.{HasHeader, pair_refusal};
 use header::{Header, editions, limits};
 
 // A joined ticket of so many bytes, or the number of a refusal.
-#[derive(Drop)]
+#[derive(Clone, Copy)]
 pub enum Answer {
     Joined(usize),
     Refused(u8),

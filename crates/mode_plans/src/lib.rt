@@ -1,4 +1,6 @@
 // The plan of a list that is read, for each mode, from one pass. The planner and the printed plan are made of it.
+#![tactic(auto)]
+
 ghost use Rattle.std.specs.Prelude.{◌≡◌, ℕ, ◌+◌, ◌-◌, ◌≤◌, ◌<◌, length, get_or};
 ghost use Rattle.schedule.specs.Greedy.{greedy_writing, save_and_keep, lazy_prefetching};
 ghost use Rattle.header.specs.Limits.{max_frames};

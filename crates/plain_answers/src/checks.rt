@@ -17,7 +17,7 @@ const SHARED_CARD: u8 = 3;
 const OVERFULL: u8 = 4;
 
 #[repr(C)]
-#[derive(Drop)]
+#[derive(Clone, Copy)]
 pub struct CheckAnswer {
     pub refusal: u8,
     pub verdict: u8,
@@ -29,7 +29,7 @@ pub struct CheckAnswer {
 // A plan's run: whether it broke off, whether all frames were handed over, how many were, the cycles that ended, the cycles needed if
 // complete, and the peak.
 #[repr(C)]
-#[derive(Drop)]
+#[derive(Clone, Copy)]
 pub struct RunAnswer {
     pub refusal: u8,
     pub broken: bool,

@@ -5,7 +5,7 @@ ghost use Rattle.plain_answers.specs.Answers.{hub_answer};
 
 // So many cards given.
 #[repr(C)]
-#[derive(Drop)]
+#[derive(Clone, Copy)]
 pub struct HubAnswer {
     pub refusal: u8,
     pub frames: u16,

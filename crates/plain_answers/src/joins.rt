@@ -5,7 +5,7 @@ ghost use Rattle.plain_answers.specs.Answers.{join_answer};
 
 // A joined ticket of so many bytes.
 #[repr(C)]
-#[derive(Drop)]
+#[derive(Clone, Copy)]
 pub struct JoinAnswer {
     pub refusal: u8,
     pub bytes: usize,

@@ -7,7 +7,7 @@ use counting::Cycle;
 
 // A plan of so many cycles.
 #[repr(C)]
-#[derive(Drop)]
+#[derive(Clone, Copy)]
 pub struct PlanAnswer {
     pub refusal: u8,
     pub cycles: Cycle,

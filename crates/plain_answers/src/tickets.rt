@@ -7,7 +7,7 @@ use header::limits;
 
 // What the header of a ticket says.
 #[repr(C)]
-#[derive(Drop)]
+#[derive(Clone, Copy)]
 pub struct TicketAnswer {
     pub refusal: u8,
     pub edition: u8,
@@ -19,7 +19,7 @@ pub struct TicketAnswer {
 
 // A part of the caller's ticket: so many bytes from byte `offset` on.
 #[repr(C)]
-#[derive(Drop)]
+#[derive(Clone, Copy)]
 pub struct Part {
     pub offset: usize,
     pub length: usize,
@@ -27,7 +27,7 @@ pub struct Part {
 
 // How many frames each of the 32 cards has.
 #[repr(C)]
-#[derive(Drop)]
+#[derive(Clone, Copy)]
 pub struct CountsAnswer {
     pub refusal: u8,
     pub frames: [u16; limits::CARDS],

@@ -1,4 +1,6 @@
 // The first fault of a plan for a list of cards: the lowest position at fault, and of its faults the first; or nothing.
+#![tactic(auto)]
+
 ghost use Rattle.std.specs.Prelude.{◌≡◌, true};
 ghost use Rattle.pool_counts.specs.Pools.{roomy_of};
 ghost use Rattle.plan_faults.specs.Faults.{Checking, clear_of, Decided, first_fault};
@@ -12,7 +14,7 @@ use counting::Position;
 use header::limits;
 
 // The lowest position at fault with the first of its faults, or nothing.
-#[derive(Drop)]
+#[derive(Clone, Copy)]
 pub enum Found {
     Nothing,
     CycleMissing(Position),

@@ -1,4 +1,6 @@
 // A plan's run on the dock: its list of steps, driven from the empty dock of a ticket's list and pool.
+#![tactic(auto)]
+
 ghost use Rattle.std.specs.Prelude.{◌≡◌, take};
 ghost use Rattle.ticket.specs.Ticket.{accepted, parse};
 ghost use Rattle.ticket.specs.Grounds.{Fits};
@@ -13,14 +15,14 @@ use counting::Cycle;
 use header::{Header, limits};
 
 // What a run comes to: all frames handed over, with the cycles needed for it, or not.
-#[derive(Drop)]
+#[derive(Clone, Copy)]
 pub enum Outcome {
     Complete(Cycle),
     Unfinished,
 }
 
 // A plan's run: whether it broke off, frames handed over, cycles ended, cycles needed if complete, and the peak.
-#[derive(Drop)]
+#[derive(Clone, Copy)]
 pub struct Run {
     pub broken: bool,
     pub delivered: u16,
@@ -30,7 +32,7 @@ pub struct Run {
 }
 
 // A run, or the number of a refusal.
-#[derive(Drop)]
+#[derive(Clone, Copy)]
 pub enum Answer {
     Ran(Run),
     Refused(u8),

@@ -1,4 +1,6 @@
 // The planner: a ticket and a lent buffer become a plan with the fewest cycles there are.
+#![tactic(auto)]
+
 ghost use Rattle.std.specs.Prelude.{◌≡◌, length, take};
 ghost use Rattle.ticket.specs.Ticket.{accepted, parse};
 ghost use Rattle.ticket.specs.Grounds.{Fits};
@@ -10,7 +12,7 @@ use counting::Cycle;
 use header::{Header, limits};
 
 // A plan of T cycles, or the number of a refusal.
-#[derive(Drop)]
+#[derive(Clone, Copy)]
 pub enum Answer {
     Planned(Cycle),
     Refused(u8),

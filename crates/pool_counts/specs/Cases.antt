@@ -17,10 +17,10 @@ answered (frame save m cycles i n) = record { count = count_up_to save m cycles 
 abbrev pub expected : Case → Numbers
 expected (frame save m cycles i n) = n
 
-infix 20 counts◌lookedAt◌
+infix 20 counts◌looked_at◌
 -- so many count, and so many were looked at
-abbrev counts◌lookedAt◌ : ℕ → ℕ → Numbers
-counts◌lookedAt◌ a b = record { count = a; looked = b }
+abbrev counts◌looked_at◌ : ℕ → ℕ → Numbers
+counts◌looked_at◌ a b = record { count = a; looked = b }
 
 -- the frames with cycles 3 1 3 2 3 1
 abbrev plan : List ℕ

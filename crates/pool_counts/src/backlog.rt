@@ -8,7 +8,7 @@ ghost use Rattle.pool_counts.specs.Looking.{Looking};
 use counting::Cycle;
 
 // How many frames count, up to m, and how many were looked at.
-#[derive(Drop)]
+#[derive(Clone, Copy)]
 pub struct Counted {
     pub count: u16,
     pub looked: u16,

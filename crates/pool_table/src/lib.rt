@@ -1,5 +1,7 @@
 // The pools of a plan whose cycles are up to 4,096, in one pass over its frames and without counting for each: how many frames have room, up
 // to the first that has not, and the peak of a read.
+#![tactic(auto)]
+
 ghost use Rattle.std.specs.Prelude.{◌≡◌, ◌≤◌, length};
 ghost use Rattle.pool_counts.specs.Pools.{roomy_of, peak_of};
 ghost use Rattle.pool_table.specs.Table.{Low};

@@ -1,4 +1,6 @@
 // The printed plan of a ticket, as text in a lent buffer.
+#![tactic(auto)]
+
 ghost use Rattle.std.specs.Prelude.{◌≡◌, length, take, replicate};
 ghost use Rattle.counting.specs.Count.{written};
 ghost use Rattle.ticket.specs.Ticket.{accepted};

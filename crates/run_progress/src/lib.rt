@@ -1,4 +1,6 @@
 // A run followed step by step: the dock, whether all frames are handed over, the cycles needed for that, and the peak.
+#![tactic(auto)]
+
 ghost use Rattle.std.specs.Prelude.{◌≡◌, cond};
 ghost use Rattle.schedule.specs.Drive.{is_end};
 ghost use Rattle.dock.specs.State.{step_of};
@@ -7,7 +9,7 @@ ghost use Rattle.run_progress.specs.Progress.{Tracked, at_start};
 use dock::{Dock, Step};
 
 // The dock after some steps; whether they have handed all frames over, the cycles needed for that, 0 before it; and the peak.
-#[derive(Drop)]
+#[derive(Clone, Copy)]
 pub struct Progress {
     pub dock: Dock,
     pub complete: bool,

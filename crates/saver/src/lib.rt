@@ -1,5 +1,7 @@
 // The saver: frames are saved one by one, as they come, and written as greedy_writing writes them. The record goes into each call by value
 // and the new one comes back.
+#![tactic(auto)]
+
 ghost use Rattle.std.specs.Prelude.{◌≡◌};
 ghost use Rattle.saver.specs.Calls.{new_of, save_of, close_of, Given};
 ghost use Rattle.saver.specs.Follows.{SaveFollows, CloseFollows};
@@ -11,7 +13,7 @@ use header::limits;
 
 // The frames in the pool stand at the first places of `card` and `position`, oldest first; the places after them are 0.
 #[repr(C)]
-#[derive(Drop)]
+#[derive(Clone, Copy)]
 pub struct Saver {
     pub cards: u8,
     pub pool: u16,
@@ -29,7 +31,7 @@ pub struct Saver {
 // What a call gives back: the number of a refusal, 0 for none; the cycle that it made, 0 for none; for each card the position written in
 // that cycle, 65,535 for none; and the new record.
 #[repr(C)]
-#[derive(Drop)]
+#[derive(Clone, Copy)]
 pub struct Answer {
     pub refusal: u8,
     pub cycle: Cycle,

@@ -1,4 +1,6 @@
 // The length of a schedule. The theory of schedules and of the dock is in specs/ and proofs/.
+#![tactic(auto)]
+
 ghost use Rattle.std.specs.Prelude.{◌≡◌};
 ghost use Rattle.schedule.specs.Schedule.{cycles_in};
 

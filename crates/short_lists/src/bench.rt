@@ -8,7 +8,7 @@ pub(crate) const END: u64 = 99;
 
 // What the dock keeps, with the list of 1 for each frame that is held, and of 1 for each card that has read in this cycle, and whether any
 // has; beside it the cycles needed to hand everything over, 0 before that, and the peak.
-#[derive(Drop)]
+#[derive(Clone, Copy)]
 pub(crate) struct Bench {
     pub(crate) broken: bool,
     pub(crate) reading: bool,

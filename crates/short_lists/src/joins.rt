@@ -10,7 +10,7 @@ use join::Answer;
 use std::num::wrapping_add_u64;
 
 // Two tickets: how many frames each has, the frames of the first and then those of the second in one list, and their pool of m.
-#[derive(Drop)]
+#[derive(Clone, Copy)]
 struct Pair {
     first: u64,
     second: u64,

@@ -2,6 +2,8 @@
 // on 3 cards and pools 1 to 4: every schedule of the shorter ones, also with late cycles, the peak of its run, and the count in the pool rule of
 // each of its frames; every short list of dock steps; every saver; every pair of short timed lists, joined; and what one frame on another card, or
 // one frame more, does to T. Writes what was covered and what differed.
+#![tactic(auto)]
+
 mod bench;
 mod greedy;
 mod joins;

@@ -49,7 +49,7 @@ fn fault_at(c: Case, plan: u64, i: u64) -> u64 {
 
 // What the rules say of a schedule: the first fault of the lowest position at fault, and that position; and the number of its cycles, which
 // is its largest cycle number, 0 for no frames. It is correct if it has no fault; the position then says nothing.
-#[derive(Drop)]
+#[derive(Clone, Copy)]
 pub(crate) struct Judged {
     pub(crate) kind: u64,
     pub(crate) position: u64,

@@ -77,7 +77,7 @@ fn compare_refused(counts: &mut report::Counts, c: Case, s: Saver)
 }
 
 // A saver, and the cycles that were noted.
-#[derive(Drop)]
+#[derive(Clone, Copy)]
 struct Saved {
     saver: Saver,
     cycles: u64,

@@ -11,7 +11,7 @@ pub(crate) const SAVE: u64 = 1;
 pub(crate) const SAVE_AND_KEEP: u64 = 2;
 
 // A ticket: its mode, its pool of m, its n frames and the list of their cards.
-#[derive(Drop)]
+#[derive(Clone, Copy)]
 pub(crate) struct Case {
     pub(crate) mode: u64,
     pub(crate) m: u64,

@@ -1,4 +1,6 @@
 // Digits: the text that tickets and printed plans are made of, read and written.
+#![tactic(auto)]
+
 ghost use Rattle.std.specs.Prelude.{◌≡◌, get_or};
 ghost use Rattle.text.specs.Text.{digit, digit_values};
 

@@ -1,4 +1,6 @@
 // The ticket's text: what it says, or the number of the one refusal that it gets. Everything that takes a ticket goes through here.
+#![tactic(auto)]
+
 ghost use Rattle.std.specs.Prelude.{◌≡◌, ◌≤◌, length};
 ghost use Rattle.header.specs.Editions.{line_digits};
 ghost use Rattle.header.specs.Heading.{edition_of, heading};

@@ -1,5 +1,7 @@
 // The ticket walker: a ticket's lines one after another, each a part of the caller's ticket.
 // A walker that has no line left, or was refused, gives the empty part, which says "end". The ticket is read once, when a walker starts.
+#![tactic(auto)]
+
 ghost use Rattle.std.specs.Prelude.{◌≡◌};
 ghost use Rattle.ticket.specs.Part.{address};
 ghost use Rattle.ticket.specs.Ticket.{line_of, line_place};
@@ -9,14 +11,14 @@ use counting::Position;
 use header::limits;
 
 // What a walker carries: the bytes that it goes through, and the position of the line that it gives next.
-#[derive(Drop)]
+#[derive(Clone, Copy)]
 pub struct Walker<'a> {
     pub ticket: &'a [u8],
     pub next: Position,
 }
 
 // What a step gives: a line, or the empty part at the end, and the walker after it.
-#[derive(Drop)]
+#[derive(Clone, Copy)]
 pub struct Stepped<'a> {
     pub line: &'a [u8],
     pub walker: Walker<'a>,

@@ -1,0 +1,9 @@
+-- What the check leaves to say of `drive`.
+use Rattle.dock.proofs.Driving.{memory_short, driven}
+use Rattle.dock.proofs.drive.Goals as goal
+
+pub returns-then-memory-frames : goal.returns-then-memory-frames
+returns-then-memory-frames c = let whole = memory_short c.args.dock _ _ c.if-memory-frames.true in record { answer = whole.0; memory = whole.1; follows = whole.2 }
+
+pub returns : goal.returns
+returns c = let whole = driven c.args.dock _ _ c.if-memory-frames.false _ _ c.advance.ensures in record { answer = whole.0; memory = whole.1; follows = whole.2 }

@@ -1,0 +1,10 @@
+-- What the loops of `backlog::count_all` keep.
+use Prim.Native.Nat.{suc, ◌-◌}
+use Rattle.pool_counts.specs.Looking.{Looking}
+use Rattle.pool_counts.proofs.backlog.count_all.Given as goal
+
+abbrev pub invariant-loop-k : goal.invariant-loop-k
+invariant-loop-k l = Looking l.save l.cycle l.others (suc l.n) l.k l.count
+
+abbrev pub decreases-loop-k : goal.decreases-loop-k
+decreases-loop-k l = l.n - l.k
