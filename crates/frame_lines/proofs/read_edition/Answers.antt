@@ -5,4 +5,4 @@ use Rattle.frame_lines.proofs.read_edition.Goals as goal
 
 pub read_1-requires : goal.read_1-requires
 read_1-requires c =
-        (c.requires.0, c.requires.1, c.requires.2, c.requires.3, no_second c.args.edition (λ e. omega arith))
+    (c.requires.0, c.requires.1, c.requires.2, c.requires.3, no_second c.args.edition (λ e. omega arith))

@@ -12,20 +12,20 @@ overflow_add-bytes c = omega (arith, widest c.args.edition, c.line_digits-bytes.
 
 pub returns-then-whole-n : goal.returns-then-whole-n
 returns-then-whole-n c =
-        let read = c.read_edition-before_end.ensures in
+    let read = c.read_edition-before_end.ensures in
     let w = whole_lines c.args.edition (length c.args.s.now) c.line_digits-bytes.ensures in
     read_refused c.args.edition _ c.args.cards c.args.frames _ _ _ _ (omega arith) (λ l. omega (arith, w)) read c.not_passing.ensures
     (omega (arith, read.up_to))
 
 pub returns-then-passing-n : goal.returns-then-passing-n
 returns-then-passing-n c =
-        let read = c.read_edition-passing.ensures in
+    let read = c.read_edition-passing.ensures in
     read_refused c.args.edition _ c.args.cards c.args.frames _ _ _ _ (omega arith) (λ l. absurd (omega arith)) read
     c.not_passing-then-passing-n.ensures (omega arith)
 
 pub returns-then-bytes-n : goal.returns-then-bytes-n
 returns-then-bytes-n c =
-        let read = c.read_edition-passing.ensures in
+    let read = c.read_edition-passing.ensures in
     let b = same_bytes c.args.edition c.args.frames c.line_digits-bytes.ensures in
     let all = all_pass c.args.edition _ c.args.cards c.args.frames _ _ _ _ (omega arith) (λ l. absurd (omega arith)) read (omega arith) in (
       sym (part_9 c.args.edition _ c.args.cards c.args.frames all (omega (arith, b))),
@@ -34,7 +34,7 @@ returns-then-bytes-n c =
 
 pub returns : goal.returns
 returns c =
-        let read = c.read_edition-passing.ensures in
+    let read = c.read_edition-passing.ensures in
     let b = same_bytes c.args.edition c.args.frames c.line_digits-bytes.ensures in
     let all = all_pass c.args.edition _ c.args.cards c.args.frames _ _ _ _ (omega arith) (λ l. absurd (omega arith)) read (omega arith) in (
       sym (part_0 c.args.edition _ c.args.cards c.args.frames all (omega (arith, b))),

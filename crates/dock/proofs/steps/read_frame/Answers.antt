@@ -5,25 +5,21 @@ use Rattle.dock.specs.Drive.{takes_buffer}
 use Rattle.dock.proofs.Taken.{read_past_list, read_card_busy, read_no_buffer, read_buffer}
 use Rattle.dock.proofs.steps.read_frame.Goals as goal
 
--- a buffer is taken
-abbrev start_of : tie.Then3 → tie.Start
-start_of c = c.before.before.before.before.before.before.before.before.before
-
 pub returns-then-dock-i : goal.returns-then-dock-i
 returns-then-dock-i c = rw c.break_off.ensures (read_past_list _ _ c.requires.1 _ c.if-dock-i.true)
 
 pub returns-then-d-c : goal.returns-then-d-c
 returns-then-d-c c =
-            rw c.break_off-then-d-c.ensures
+    rw c.break_off-then-d-c.ensures
     (read_card_busy c.args.dock _ c.requires.1 _ c.if-dock-i.false c.card_in-c.ensures
     c.if-d-c.true)
 
 pub returns-then-takes_buffer : goal.returns-then-takes_buffer
 returns-then-takes_buffer c =
-        let pre = (start_of c).requires in
-    read_buffer (start_of c).args.dock _ pre.1 _ c.if-dock-i.false c.card_in-c.ensures c.if-d-c.false (sym c.takes_buffer.ensures ∙ c.if-takes_buffer.true)
+    let pre = c.requires in
+    read_buffer c.args.dock _ pre.1 _ c.if-dock-i.false c.card_in-c.ensures c.if-d-c.false (sym c.takes_buffer.ensures ∙ c.if-takes_buffer.true)
 
 pub returns : goal.returns
 returns c =
-            read_no_buffer c.args.dock _ c.requires.1 _ c.if-dock-i.false c.card_in-c.ensures c.if-d-c.false
+    read_no_buffer c.args.dock _ c.requires.1 _ c.if-dock-i.false c.card_in-c.ensures c.if-d-c.false
     (sym c.takes_buffer.ensures ∙ c.if-takes_buffer.false)

@@ -6,10 +6,8 @@ use Rattle.pool_counts.proofs.plans.all_roomy_save.Goals as goal
 pub returns-then-m-found : goal.returns-then-m-found
 returns-then-m-found c =
     let inv = c.loop-i.invariant in
-    let place_is = c.place-c.ensures in
-    let counted = c.backlog-found.ensures in
     let some_left = c.loop-i-test.true in
-    not_all_roomy inv some_left place_is.0 (omega (arith, counted.0, c.if-m-found.true))
+    not_all_roomy inv some_left c.place-c.ensures.0 (omega (arith, c.backlog-found.ensures.count, c.if-m-found.true))
 
 pub loop-i-preserved : goal.loop-i-preserved
 loop-i-preserved c =

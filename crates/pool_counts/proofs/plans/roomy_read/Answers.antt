@@ -7,26 +7,23 @@ use Rattle.pool_counts.proofs.plans.roomy_read.Goals as goal
 pub returns-then-m-found : goal.returns-then-m-found
 returns-then-m-found c =
     let inv = c.loop-i.invariant in
-    let counted = c.backlog-found.ensures in
     let inside = c.loop-i-test.true in
-    record { roomy = roomy_ends inv.roomy inside (omega (arith, counted.0, c.if-m-found.true)); peak = inv.so_far }
+    record { roomy = roomy_ends inv.roomy inside (omega (arith, c.backlog-found.ensures.count, c.if-m-found.true)); peak = inv.so_far }
 
 pub loop-i-preserved-then-ceiling-c : goal.loop-i-preserved-then-ceiling-c
 loop-i-preserved-then-ceiling-c c =
     let inv = c.loop-i.invariant in
-    let place_is = c.place-c.ensures in
     let ahead = c.if-ceiling-c.true in
     let inside = c.loop-i-test.true in
     let counted = c.backlog-found.ensures.count in
     let room = c.if-m-found.false in
-    read_ahead inv inside place_is.0 ahead (omega (arith, counted, room)) (omega (arith, c.larger-peak.ensures, counted, room))
+    read_ahead inv inside c.place-c.ensures.0 ahead (omega (arith, counted, room)) (omega (arith, c.larger-peak.ensures, counted, room))
 
 pub loop-i-preserved : goal.loop-i-preserved
 loop-i-preserved c =
     let inv = c.loop-i.invariant in
     let inside = c.loop-i-test.true in
-    let place_is = c.place-c.ensures in
-    read_covered inv inside place_is.0 c.if-ceiling-c.false
+    read_covered inv inside c.place-c.ensures.0 c.if-ceiling-c.false
 
 pub returns : goal.returns
 returns c = let whole = read_all c.loop-i.invariant c.loop-i-test.false in record { roomy = whole.0; peak = whole.1 }

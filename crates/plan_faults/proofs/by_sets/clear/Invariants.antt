@@ -1,0 +1,10 @@
+-- What the loops of `by_sets::clear` keep.
+use Prim.Native.Nat.{◌-◌}
+use Rattle.plan_faults.proofs.Seen.{Seen}
+use Rattle.plan_faults.proofs.by_sets.clear.Given as goal
+
+abbrev pub invariant-loop-i : goal.invariant-loop-i
+invariant-loop-i l = Seen l.cards l.plan l.seen l.n l.i
+
+abbrev pub decreases-loop-i : goal.decreases-loop-i
+decreases-loop-i l = l.n - l.i

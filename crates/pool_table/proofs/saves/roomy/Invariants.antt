@@ -1,0 +1,11 @@
+-- What the loops of `saves::roomy` keep.
+use Prim.Native.Nat.{suc, ◌+◌, ◌-◌}
+use Rattle.header.specs.Limits.{max_frames}
+use Rattle.pool_table.proofs.SaveTurns.{SaveTurn}
+use Rattle.pool_table.proofs.saves.roomy.Given as goal
+
+abbrev pub invariant-loop-i : goal.invariant-loop-i
+invariant-loop-i l = SaveTurn l.m l.plan l.due l.i l.full l.above
+
+abbrev pub decreases-loop-i : goal.decreases-loop-i
+decreases-loop-i l = (l.n - l.i) + (suc max_frames - l.full)
