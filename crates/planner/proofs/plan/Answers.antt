@@ -1,0 +1,10 @@
+-- What the check leaves to say of `plan`.
+use Rattle.planner.proofs.Answers.{ticket_refused}
+use Rattle.planner.proofs.Demand.{contract}
+use Rattle.planner.proofs.plan.Goals as goal
+
+pub returns-in-Refused : goal.returns-in-Refused
+returns-in-Refused c = let whole = contract _ _ _ _ (rw (c.read-answer.ensures.reads.refusal _ c.in-Refused.is) (ticket_refused _ _)) in record { answer = whole.0; buffer = whole.1.0; numbers = whole.1.1.0; demand = whole.1.1.1 }
+
+pub returns-in-Accepted : goal.returns-in-Accepted
+returns-in-Accepted c = let whole = contract _ _ _ _ (rw (c.read-answer.ensures.reads.list _ c.in-Accepted.is) c.plan_list.ensures) in record { answer = whole.0; buffer = whole.1.0; numbers = whole.1.1.0; demand = whole.1.1.1 }

@@ -1,0 +1,11 @@
+-- What the check leaves to say of `print`.
+use Rattle.printing.specs.Printed.{text_of}
+use Rattle.printing.proofs.Outcome.{contract}
+use Rattle.printing.proofs.print.Goals as goal
+
+pub returns-in-Refused : goal.returns-in-Refused
+unfolding text_of
+returns-in-Refused c = let whole = contract _ _ _ _ (rw (c.read-answer.ensures.reads.refusal _ c.in-Refused.is) c.refusal.ensures) in record { answer = whole.0; buffer = whole.1.0; front = whole.1.1 }
+
+pub returns-in-Accepted : goal.returns-in-Accepted
+returns-in-Accepted c = let whole = contract _ _ _ _ (rw (c.read-answer.ensures.reads.list _ c.in-Accepted.is) c.print_list.ensures) in record { answer = whole.0; buffer = whole.1.0; front = whole.1.1 }

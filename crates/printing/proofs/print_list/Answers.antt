@@ -1,0 +1,7 @@
+-- What the check leaves to say of `print_list`.
+use Rattle.printing.proofs.Listed.{text_is}
+use Rattle.printing.proofs.print_list.Goals as goal
+
+pub returns : goal.returns
+returns c =
+    rw (← text_is _ _ c.requires _ _ _ c.fill-cycles.ensures) c.plan.ensures
