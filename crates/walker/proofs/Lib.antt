@@ -3,4 +3,3 @@ pub mod Bytes
 pub mod Held
 pub mod Steps
 pub mod Same
-pub mod MirSteps

@@ -71,7 +71,7 @@ pub fn next_at(bytes: &[u8], p: Position) -> Position
 impl<'a> Walker<'a> {
     // A walker at the ticket's first line. With a refused ticket it is at its end; `ticket::refusal` gives the number.
     pub fn start(ticket: &'a [u8]) -> Walker<'a>
-        ensures { WalksOn ticket.now 0 result × (result.ticket.ptr ≡ ticket.entry.ref_ptr) }
+        ensures { WalksOn ticket.now 0 result × (result.ticket.ref_ptr ≡ ticket.entry.ref_ptr) }
     {
         Walker {
             ticket: opened(ticket),
@@ -92,7 +92,7 @@ impl<'a> Walker<'a> {
     // The next line, empty at the end, and the walker after it.
     pub fn step(self) -> Stepped<'a>
         ensures { (result.line.now ≡ gives self.entry)
-            × (result.line.ptr ≡ address self.entry.ticket.ptr (gives_from self.entry))
+            × (result.line.ref_ptr ≡ address self.entry.ticket.ref_ptr (gives_from self.entry))
             × (result.walker ≡ stepped self.entry) }
     {
         Stepped {

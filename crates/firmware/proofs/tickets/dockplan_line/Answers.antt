@@ -1,0 +1,10 @@
+-- What the check leaves to say of `tickets::dockplan_line`.
+use native.Mathlib.Omega.{arith}
+use Rattle.firmware.proofs.Lines.{no_part, the_part}
+use Rattle.firmware.proofs.tickets.dockplan_line.Goals as goal
+
+pub returns-then-n-eq0 : goal.returns-then-n-eq0
+returns-then-n-eq0 c = let whole = no_part _ _ c.line-line.result.now c.line-line.ensures.line (omega arith) in record { part = whole.0; line = whole.1 }
+
+pub returns : goal.returns
+returns c = let whole = the_part _ _ c.line-line.result.now c.line-line.ensures.line _ c.line_start.ensures (λ z. omega (arith, z)) in record { part = whole.0; line = whole.1 }
