@@ -2,12 +2,14 @@
 // A ticket is settled by the bytes that the input buffer holds (`front_settles`, crates/printing/proofs/Main.antt), and no more are looked at.
 #![tactic(auto)]
 
-use libc::{STDIN_FILENO, STDOUT_FILENO};
+mod input;
 
-fn main() {
+use std::io;
+
+fn main(rt: HostRuntime) -> io::Result<()> {
     let mut ticket = printing::input_buffer();
-    let read = io::read_full(STDIN_FILENO, &mut ticket);
+    let read = input::read_full(&rt, &mut ticket)?;
     let mut text = printing::text_buffer();
     let bytes = printing::print_whole(&ticket[..read], &mut text);
-    io::write_all(STDOUT_FILENO, &text[..bytes]);
+    rt.write_all(&text[..bytes])
 }

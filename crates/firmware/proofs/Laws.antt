@@ -9,16 +9,16 @@ use Rattle.planner.specs.Plan.{plan_of, buffer_after}
 use Rattle.planner.specs.Numbers.{numbers_of}
 use Rattle.planner.specs.Demand3.{Demand3}
 use Rattle.planner.specs.declared.Answer.{Answer}
-use Rattle.join.specs.Join.{join_of, answer_of, buffer_after as joinedInto}
-use Rattle.join.specs.Numbers.{numbers_of as numbersOfJoin}
+use Rattle.join.specs.Join.{join_of, answer_of, buffer_after as joined_into}
+use Rattle.join.specs.Numbers.{numbers_of as numbers_of_join}
 use Rattle.join.specs.Showing.{Showing}
 use Rattle.join.specs.declared.Answer.{Answer as JoinAnswer}
 use Rattle.hub.specs.Fullest.{Gathering}
-use Rattle.hub.specs.Gather.{answer_for as gatheredIn, buffer_after as gatheredInto}
-use Rattle.hub.specs.Numbers.{numbers_of as numbersOfHub}
+use Rattle.hub.specs.Gather.{answer_for as gathered_in, buffer_after as gathered_into}
+use Rattle.hub.specs.Numbers.{numbers_of as numbers_of_hub}
 use Rattle.hub.specs.declared.Answer.{Answer as HubAnswer}
 use Rattle.checker.specs.Check.{check_of}
-use Rattle.checker.specs.Numbers.{numbers_of as numbersOfCheck}
+use Rattle.checker.specs.Numbers.{numbers_of as numbers_of_check}
 use Rattle.checker.specs.Exact.{Exact}
 use Rattle.checker.specs.declared.Verdict.{Verdict}
 use Rattle.plain_answers.specs.Answers.{counts_answer, plan_answer, join_answer, hub_answer, check_answer}
@@ -44,32 +44,32 @@ module _ (t before after : List ℕ) (a : Answer) (r : PlanAnswer) (e : r ≡ pl
   planned p = (e ∙ ap plan_answer p.1.1.0, (p.1.0, rw e p.1.1.1))
 
 -- the contract of `dockplan_join` from that of `join::join`
-module _ (first second before after : List ℕ) (a : JoinAnswer) (r : PlainJoin) (e : r ≡ join_answer (numbersOfJoin a)) where
+module _ (first second before after : List ℕ) (a : JoinAnswer) (r : PlainJoin) (e : r ≡ join_answer (numbers_of_join a)) where
   pub joined :
       (a ≡ answer_of (join_of first second) (length before))
-      × ((after ≡ joinedInto (join_of first second) before)
-      × ((numbersOfJoin a ≡ numbersOfJoin (answer_of (join_of first second) (length before)))
-      × Showing first second (numbersOfJoin a).refusal (numbersOfJoin a).bytes after))
-      → (r ≡ join_answer (numbersOfJoin (answer_of (join_of first second) (length before))))
-      × ((after ≡ joinedInto (join_of first second) before) × Showing first second r.refusal r.bytes after)
+      × ((after ≡ joined_into (join_of first second) before)
+      × ((numbers_of_join a ≡ numbers_of_join (answer_of (join_of first second) (length before)))
+      × Showing first second (numbers_of_join a).refusal (numbers_of_join a).bytes after))
+      → (r ≡ join_answer (numbers_of_join (answer_of (join_of first second) (length before))))
+      × ((after ≡ joined_into (join_of first second) before) × Showing first second r.refusal r.bytes after)
   joined p = (e ∙ ap join_answer p.1.1.0, (p.1.0, rw e p.1.1.1))
 
 -- the contract of `dockplan_hub` from that of `hub::gather`
-module _ (chosen cameras before after : List ℕ) (a : HubAnswer) (r : PlainHub) (e : r ≡ hub_answer (numbersOfHub a)) where
+module _ (chosen cameras before after : List ℕ) (a : HubAnswer) (r : PlainHub) (e : r ≡ hub_answer (numbers_of_hub a)) where
   pub gathered :
-      (a ≡ gatheredIn chosen cameras (length before))
-      × ((after ≡ gatheredInto chosen cameras before)
-      × ((numbersOfHub a ≡ numbersOfHub (gatheredIn chosen cameras (length before)))
-      × Gathering chosen (numbersOfHub a).refusal (numbersOfHub a).frames after))
-      → (r ≡ hub_answer (numbersOfHub (gatheredIn chosen cameras (length before))))
-      × ((after ≡ gatheredInto chosen cameras before) × Gathering chosen r.refusal r.frames after)
+      (a ≡ gathered_in chosen cameras (length before))
+      × ((after ≡ gathered_into chosen cameras before)
+      × ((numbers_of_hub a ≡ numbers_of_hub (gathered_in chosen cameras (length before)))
+      × Gathering chosen (numbers_of_hub a).refusal (numbers_of_hub a).frames after))
+      → (r ≡ hub_answer (numbers_of_hub (gathered_in chosen cameras (length before))))
+      × ((after ≡ gathered_into chosen cameras before) × Gathering chosen r.refusal r.frames after)
   gathered p = (e ∙ ap hub_answer p.1.1.0, (p.1.0, rw e p.1.1.1))
 
 -- the contract of `dockplan_check` from that of `checker::check`
-module _ (t cycles : List ℕ) (v : Verdict) (r : CheckAnswer) (e : r ≡ check_answer (numbersOfCheck v)) where
+module _ (t cycles : List ℕ) (v : Verdict) (r : CheckAnswer) (e : r ≡ check_answer (numbers_of_check v)) where
   pub checked :
       (v ≡ check_of (parse t) cycles)
-      × ((numbersOfCheck v ≡ numbersOfCheck (check_of (parse t) cycles))
-      × Exact t cycles (numbersOfCheck v).verdict (numbersOfCheck v).position.0 (numbersOfCheck v).peak)
-      → (r ≡ check_answer (numbersOfCheck (check_of (parse t) cycles))) × Exact t cycles r.verdict r.position.0 r.peak
+      × ((numbers_of_check v ≡ numbers_of_check (check_of (parse t) cycles))
+      × Exact t cycles (numbers_of_check v).verdict (numbers_of_check v).position.0 (numbers_of_check v).peak)
+      → (r ≡ check_answer (numbers_of_check (check_of (parse t) cycles))) × Exact t cycles r.verdict r.position.0 r.peak
   checked p = (e ∙ ap check_answer p.1.0, rw e p.1.1)

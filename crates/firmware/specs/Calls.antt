@@ -4,16 +4,16 @@
 use Rattle.std.specs.Prelude.{ℕ, Bool, true, false, List, map, length}
 use Rattle.ticket.specs.Ticket.{parse, numbers_in, line_refusal_of}
 use Rattle.planner.specs.Plan.{plan_of, buffer_after}
-use Rattle.planner.specs.Numbers.{numbers_of as numbersOfPlan}
-use Rattle.join.specs.Join.{Outcome, join_of, answer_of, buffer_after as joinedInto}
-use Rattle.join.specs.Numbers.{numbers_of as numbersOfJoin}
-use Rattle.hub.specs.Gather.{answer_for as gatheredOf, buffer_after as gatheredInto}
-use Rattle.hub.specs.Numbers.{numbers_of as numbersOfHub}
+use Rattle.planner.specs.Numbers.{numbers_of as numbers_of_plan}
+use Rattle.join.specs.Join.{Outcome, join_of, answer_of, buffer_after as joined_into}
+use Rattle.join.specs.Numbers.{numbers_of as numbers_of_join}
+use Rattle.hub.specs.Gather.{answer_for as gathered_of, buffer_after as gathered_into}
+use Rattle.hub.specs.Numbers.{numbers_of as numbers_of_hub}
 use Rattle.checker.specs.Check.{check_of}
-use Rattle.checker.specs.Numbers.{numbers_of as numbersOfCheck}
+use Rattle.checker.specs.Numbers.{numbers_of as numbers_of_check}
 use Rattle.plan_run.specs.Run.{ran_of}
-use Rattle.plan_run.specs.Numbers.{numbers_of as numbersOfRun}
-use Rattle.print_lines.specs.Put.{bytes_in, buffer_after as textAfter}
+use Rattle.plan_run.specs.Numbers.{numbers_of as numbers_of_run}
+use Rattle.print_lines.specs.Put.{bytes_in, buffer_after as text_after}
 use Rattle.printing.specs.Printed.{printed}
 use Rattle.saver.specs.Calls.{new_of, save_of, close_of}
 use Rattle.saver.specs.declared.Saver.{Saver}
@@ -147,18 +147,18 @@ of_dock a memory = dock a.refusal a.dock memory
 
 -- two tickets joined, in a buffer
 abbrev join_result : Outcome → List ℕ → Result
-join_result join buffer = of_join (join_answer (numbersOfJoin (answer_of join (length buffer)))) (joinedInto join buffer)
+join_result join buffer = of_join (join_answer (numbers_of_join (answer_of join (length buffer)))) (joined_into join buffer)
 
 abbrev pub result_of : Call → Result
 result_of (parse_ticket t) = of_ticket (ticket_answer (numbers_in (parse t)))
-result_of (plan_ticket t buffer) = of_plan (plan_answer (numbersOfPlan (plan_of (parse t) (length buffer)))) (buffer_after (parse t) buffer)
-result_of (print_plan t buffer) = text (bytes_in (printed t) (length buffer)) (textAfter (printed t) buffer)
+result_of (plan_ticket t buffer) = of_plan (plan_answer (numbers_of_plan (plan_of (parse t) (length buffer)))) (buffer_after (parse t) buffer)
+result_of (print_plan t buffer) = text (bytes_in (printed t) (length buffer)) (text_after (printed t) buffer)
 result_of (join_first t other buffer) = join_result (join_of t other) buffer
 result_of (join_second t other buffer) = join_result (join_of other t) buffer
 result_of (gather chosen cameras buffer) =
-    of_hub (hub_answer (numbersOfHub (gatheredOf chosen cameras (length buffer)))) (gatheredInto chosen cameras buffer)
-result_of (check_plan t cycles) = of_check (check_answer (numbersOfCheck (check_of (parse t) cycles)))
-result_of (run_plan t cycles) = of_run (run_answer (numbersOfRun (ran_of (parse t) cycles)))
+    of_hub (hub_answer (numbers_of_hub (gathered_of chosen cameras (length buffer)))) (gathered_into chosen cameras buffer)
+result_of (check_plan t cycles) = of_check (check_answer (numbers_of_check (check_of (parse t) cycles)))
+result_of (run_plan t cycles) = of_run (run_answer (numbers_of_run (ran_of (parse t) cycles)))
 result_of (line t p) = of_line (line_part t p) (line_refusal_of (parse t) p)
 result_of (counts t) = of_counts (counts_answer (parse t))
 result_of (new_saver cards pool) = of_saver (new_of cards pool)

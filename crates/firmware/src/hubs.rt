@@ -8,8 +8,7 @@ ghost use Rattle.plain_answers.specs.Answers.{hub_answer};
 use plain_answers::hubs::{HubAnswer, hub_answer};
 
 // Fills the first places of `cards`. `fullest` is what request 2026-06 promises of them.
-#[unsafe(no_mangle)]
-pub extern "C" fn dockplan_hub(chosen: &[u8], cameras: &[u8], cards: &mut [u8]) -> HubAnswer
+pub fn dockplan_hub(chosen: &[u8], cameras: &[u8], cards: &mut [u8]) -> HubAnswer
     ensures answer { result ≡ hub_answer (numbers_of (answer_for chosen.now cameras.now (length cards.old))) }
     ensures buffer { cards.new ≡ buffer_after chosen.now cameras.now cards.old }
     ensures fullest { Gathering chosen.now result.refusal result.frames cards.new }

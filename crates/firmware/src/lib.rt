@@ -1,5 +1,5 @@
-// The planner for C and Rust, built as a static library: include/dockplan.h declares its calls. A slice crosses as a pointer and a count, an
-// answer as a struct of numbers. Each call makes the call of the crates below that its name says, and its contract is that call's.
+// The planner's calls for C and Rust, with slices, and structs of numbers for answers. Each call makes the call of the crates below that its
+// name says, and its contract is that call's. crates/firmware_c exports them as the static library that include/dockplan.h declares.
 #![tactic(auto)]
 
 pub mod checks;

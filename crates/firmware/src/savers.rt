@@ -5,16 +5,14 @@ ghost use Rattle.saver.specs.Follows.{SaveFollows, CloseFollows};
 
 use saver::{Answer, Saver};
 
-#[unsafe(no_mangle)]
-pub extern "C" fn dockplan_saver_new(cards: u8, pool: u16) -> Answer
+pub fn dockplan_saver_new(cards: u8, pool: u16) -> Answer
     ensures answer { result ≡ new_of cards pool }
     ensures given { Given result.saver }
 {
     Saver::new(cards, pool)
 }
 
-#[unsafe(no_mangle)]
-pub extern "C" fn dockplan_saver_save(saver: Saver, card: u8) -> Answer
+pub fn dockplan_saver_save(saver: Saver, card: u8) -> Answer
     requires { Given saver }
     ensures answer { result ≡ save_of saver card }
     ensures given { Given result.saver }
@@ -23,8 +21,7 @@ pub extern "C" fn dockplan_saver_save(saver: Saver, card: u8) -> Answer
     saver.save(card)
 }
 
-#[unsafe(no_mangle)]
-pub extern "C" fn dockplan_saver_close(saver: Saver) -> Answer
+pub fn dockplan_saver_close(saver: Saver) -> Answer
     requires { Given saver }
     ensures answer { result ≡ close_of saver }
     ensures given { Given result.saver }

@@ -8,16 +8,14 @@ use header::limits;
 use plain_answers::tickets::{CountsAnswer, Part, TicketAnswer, ticket_answer};
 
 // Reads the whole ticket, its lines too.
-#[unsafe(no_mangle)]
-pub extern "C" fn dockplan_parse(ticket: &[u8]) -> TicketAnswer
+pub fn dockplan_parse(ticket: &[u8]) -> TicketAnswer
     ensures { result ≡ ticket_answer (numbers_in (parse ticket.now)) }
 {
     let mut card = [0u8; limits::FRAMES];
     ticket_answer(ticket::read(ticket, &mut card))
 }
 
-#[unsafe(no_mangle)]
-pub extern "C" fn dockplan_line(ticket: &[u8], p: Position) -> Part
+pub fn dockplan_line(ticket: &[u8], p: Position) -> Part
     ensures part { result ≡ line_part ticket.now p.0 }
     ensures line { take result.length (drop result.offset ticket.now) ≡ line_of ticket.now p.0 }
 {
@@ -36,15 +34,13 @@ pub extern "C" fn dockplan_line(ticket: &[u8], p: Position) -> Part
 }
 
 // The number that goes with the line.
-#[unsafe(no_mangle)]
-pub extern "C" fn dockplan_line_refusal(ticket: &[u8], p: Position) -> u8
+pub fn dockplan_line_refusal(ticket: &[u8], p: Position) -> u8
     ensures { result ≡ line_refusal_of (parse ticket.now) p.0 }
 {
     ticket::line_refusal(ticket, p)
 }
 
-#[unsafe(no_mangle)]
-pub extern "C" fn dockplan_counts(ticket: &[u8]) -> CountsAnswer
+pub fn dockplan_counts(ticket: &[u8]) -> CountsAnswer
     ensures { result ≡ counts_answer (parse ticket.now) }
 {
     let number = ticket::refusal(ticket);

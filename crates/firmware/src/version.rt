@@ -2,8 +2,7 @@
 ghost use Rattle.std.specs.Prelude.{◌≡◌};
 
 // The number that include/dockplan.h has as DOCKPLAN_VERSION: 107 for 1.7. It grows whenever a call is added or changed, or uses more stack.
-#[unsafe(no_mangle)]
-pub extern "C" fn dockplan_version() -> u32
+pub fn dockplan_version() -> u32
     ensures { result ≡ 107 }
 {
     107

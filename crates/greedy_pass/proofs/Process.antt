@@ -106,7 +106,7 @@ module _ {cards : List ℕ} {K m n : ℕ} {a latest due : ℕ → ℕ} {t w : �
         → latest' (card_of cards n) ≡ a' n → ((c : ℕ) → (c ≡ card_of cards n → ⊥) → latest' c ≡ latest c)
         → due' (a' n) ≡ due (a' n) + 1 → ((u : ℕ) → (u ≡ a' n → ⊥) → due' u ≡ due u)
         → Saved cards K m (suc n) a' latest' due' t (w + 1)
-    enters old new here there dueHere dueThere =
+    enters old new here there due_here due_there =
         record {
           tables =
               record {
@@ -114,7 +114,7 @@ module _ {cards : List ℕ} {K m n : ℕ} {a latest due : ℕ → ℕ} {t w : �
                 shows =
                     shows_enter v.tables.shows (omega (arith, v.tables.made_is, v.tables.made_le)) old (omega (arith, v.tables.made_is)) here
                     there;
-                counts = counts_enter v.tables.counts old (omega arith) dueHere dueThere;
+                counts = counts_enter v.tables.counts old (omega arith) due_here due_there;
                 made_le = omega (arith, v.tables.made_le);
               };
           last_waits = λ i e. let q : i ≡ n = omega arith in rw q (omega arith);

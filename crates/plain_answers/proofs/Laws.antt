@@ -3,7 +3,7 @@
 use mathlib.Core.Path.{◌≡◌, refl}
 use mathlib.Core.Bool.{Bool}
 use Rattle.counting.specs.declared.Cycle.{Cycle}
-use Rattle.plan_run.specs.Numbers.{complete_in, needed_in, numbers_of as numbersOfRun}
+use Rattle.plan_run.specs.Numbers.{complete_in, needed_in, numbers_of as numbers_of_run}
 use Rattle.plan_run.specs.declared.Run.{Run}
 use Rattle.plan_run.specs.declared.Answer.TheVariants.{Ran}
 use Rattle.plain_answers.specs.Answers.{run_answer}
@@ -19,5 +19,5 @@ pub ran :
       needed = needed;
       peak = run.peak;
     }
-    ≡ run_answer (numbersOfRun (Ran run))
+    ≡ run_answer (numbers_of_run (Ran run))
 ran run whole needed e f = rw (e, f) refl

@@ -1,7 +1,7 @@
 // A verdict, and a plan's run.
 ghost use Rattle.std.specs.Prelude.{◌≡◌};
 ghost use Rattle.checker.specs.Numbers.{numbers_of};
-ghost use Rattle.plan_run.specs.Numbers.{complete_in, needed_in, numbers_of as numbersOfRun};
+ghost use Rattle.plan_run.specs.Numbers.{complete_in, needed_in, numbers_of as numbers_of_run};
 ghost use Rattle.plan_run.specs.declared.Answer.TheVariants.{Ran};
 ghost use Rattle.plain_answers.specs.Answers.{check_answer, run_answer};
 
@@ -95,7 +95,7 @@ fn cycles_needed(outcome: plan_run::Outcome) -> Cycle
 }
 
 fn ran(run: plan_run::Run) -> RunAnswer
-    ensures { result ≡ run_answer (numbersOfRun (Ran run)) }
+    ensures { result ≡ run_answer (numbers_of_run (Ran run)) }
 {
     let outcome = run.outcome;
     let ended = run.ended;
@@ -111,7 +111,7 @@ fn ran(run: plan_run::Run) -> RunAnswer
 }
 
 pub fn run_answer(answer: plan_run::Answer) -> RunAnswer
-    ensures { result ≡ run_answer (numbersOfRun answer) }
+    ensures { result ≡ run_answer (numbers_of_run answer) }
 {
     match answer {
         plan_run::Answer::Ran(run) => ran(run),
