@@ -4,7 +4,7 @@ use Prim.Native.Nat.{ℕ, ◌≤◌}
 use mathlib.Core.Path.{◌≡◌}
 use mathlib.Core.List.{List, ◌∷◌, ◌++◌, map}
 use lib.ListN.{length}
-use Rattle.schedule.specs.Cases as schedule-cases
+use Rattle.schedule.specs.Cases.{expected, cases}
 use Rattle.schedule.specs.OneFrame.{AtMostOneApart, NoneOrOneMore}
 use Rattle.schedule.proofs.Main.{insert_read, insert_save, change_read, change_save}
 use Rattle.header.specs.declared.Header.{Header}
@@ -13,8 +13,9 @@ use Rattle.ticket.proofs.Main.{accepted_pool}
 use Rattle.planner.specs.Plan.{Answered}
 use Rattle.planner.specs.Numbers.{numbers_of}
 use Rattle.planner.specs.Demand3.{Demand3}
-use Rattle.planner.specs.Cases as plan-cases
-use Rattle.planner.specs.OneFrame.{Alike, Planning, asked, expected, examples}
+use Rattle.planner.specs.Cases.{asked}
+use Rattle.planner.specs.OneFrame.{Alike, Planning}
+use Rattle.planner.specs.OneFrame as shifted
 use Rattle.planner.specs.declared.Answer.{Answer}
 use Rattle.planner.proofs.Cases as table
 use Rattle.planner.proofs.Demand as demand
@@ -27,7 +28,7 @@ pub demand_3 : (t before after : List ℕ) (r : Answer) → Answered (parse t) b
 demand_3 = demand.demand_3
 
 -- The starred plans of document 01 hold of a call that is given the ticket that asks for them, and so do the table's other plans.
-pub plans_hold : map plan-cases.asked schedule-cases.cases ≡ map schedule-cases.expected schedule-cases.cases
+pub plans_hold : map asked cases ≡ map expected cases
 plans_hold = table.plans_hold
 
 -- One frame (request 2026-08): two accepted tickets, of whichever texts and editions, of one mode, read or full save, and one pool. Their lists have the
@@ -53,5 +54,5 @@ module _ (t u : List ℕ) (h g : Header) (before behind : List ℕ) where
       (insert_read h.pool before behind pool card) (insert_save h.pool before behind pool card)
 
 -- Each bound is met, and neither holds of two frames.
-pub examples_hold : map asked examples ≡ map expected examples
+pub examples_hold : map shifted.asked shifted.examples ≡ map shifted.expected shifted.examples
 examples_hold = one-frame.examples_hold

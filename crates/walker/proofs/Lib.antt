@@ -1,5 +1,4 @@
 pub mod Main
 pub mod Bytes
-pub mod Held
 pub mod Steps
 pub mod Same

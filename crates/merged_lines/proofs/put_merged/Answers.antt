@@ -1,5 +1,4 @@
 -- What the check leaves to say of `put_merged`.
-use Prim.Native.Nat.{◌-◌}
 use native.Mathlib.Omega.{arith}
 use Rattle.merged_lines.proofs.Offsets.{first_of_all, second_of_all, starts, within, same_long, stops}
 use Rattle.merged_lines.proofs.Offsets.{line_first, key_first, room_first, next_first, took_first}

@@ -1,5 +1,4 @@
 -- What the check leaves to say of `cycles_in`.
-use Prim.Native.Nat.{◌-◌}
 use native.Mathlib.Omega.{arith}
 use Rattle.counting.proofs.Lists.{largest_take}
 use Rattle.schedule.proofs.cycles_in.Goals as goal

@@ -1,5 +1,4 @@
 -- What the check leaves to say of `tally::tally`.
-use Prim.Native.Nat.{◌-◌}
 use native.Mathlib.Omega.{arith}
 use Rattle.counting.proofs.Counted.{count_small, count_next}
 use Rattle.header.specs.Limits.{max_cards}

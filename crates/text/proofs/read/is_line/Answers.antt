@@ -1,5 +1,4 @@
 -- What the check leaves to say of `read::is_line`.
-use Prim.Native.Nat.{◌-◌}
 use mathlib.Core.Path.{◌≡◌, refl, sym}
 use native.Mathlib.Omega.{arith}
 use Rattle.text.specs.Text.{digits}

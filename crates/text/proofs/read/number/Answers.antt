@@ -1,7 +1,6 @@
 -- What the check leaves to say of `read::number`.
 use Rattle.text.specs.Text.{number}
 use Rattle.text.proofs.Digits.{number_on, number_fits, number_lt}
-use Prim.Native.Nat.{◌-◌}
 use mathlib.Core.Path.{◌≡◌, refl}
 use native.Mathlib.Omega.{arith}
 use Rattle.text.proofs.read.number.Goals as goal

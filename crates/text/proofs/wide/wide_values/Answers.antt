@@ -1,5 +1,4 @@
 -- What the check leaves to say of `wide::wide_values`.
-use Prim.Native.Nat.{◌-◌}
 use mathlib.Core.Path.{◌≡◌, refl, ap}
 use native.Mathlib.Omega.{arith}
 use lib.ListN.{replicate, length-set}
