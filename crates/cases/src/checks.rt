@@ -3,48 +3,49 @@
 use crate::{output, tables};
 use checker::Verdict;
 use plan_run::{Answer, Outcome};
+use std::io;
 
-fn at_fault(name: usize, position: u16) {
-    output::word(name);
-    output::number(position, 6);
-    output::pad(0, 12);
+fn at_fault(rt: &impl Print, name: usize, position: u16) -> io::Result<()> {
+    output::word(rt, name)?;
+    output::number(rt, position, 6)?;
+    output::pad(rt, 0, 12)
 }
 
 // The verdict; the position at fault, or the number of a refusal; T and the peak.
-pub(crate) fn verdict(v: Verdict) {
+pub(crate) fn verdict(rt: &impl Print, v: Verdict) -> io::Result<()> {
     match v {
         Verdict::Valid(cycles, peak) => {
-            output::word(output::VALID);
-            output::number(cycles.0, 6);
-            output::number(peak, 6);
+            output::word(rt, output::VALID)?;
+            output::number(rt, cycles.0, 6)?;
+            output::number(rt, peak, 6)
         }
-        Verdict::NoCycle(p) => at_fault(output::NO_CYCLE, p.0),
-        Verdict::SharedCard(p) => at_fault(output::SHARED_CARD, p.0),
-        Verdict::Overfull(p) => at_fault(output::OVERFULL, p.0),
-        Verdict::Refused(k) => at_fault(output::NO_VERDICT, k as u16),
+        Verdict::NoCycle(p) => at_fault(rt, output::NO_CYCLE, p.0),
+        Verdict::SharedCard(p) => at_fault(rt, output::SHARED_CARD, p.0),
+        Verdict::Overfull(p) => at_fault(rt, output::OVERFULL, p.0),
+        Verdict::Refused(k) => at_fault(rt, output::NO_VERDICT, k as u16),
     }
 }
 
 // The cycles needed, none where the run is unfinished; frames handed over, cycles ended, peak; whether it broke off. Or the number of a refusal.
-pub(crate) fn run(a: Answer) {
+pub(crate) fn run(rt: &impl Print, a: Answer) -> io::Result<()> {
     match a {
         Answer::Ran(r) => {
             let end = r.outcome;
             match end {
                 Outcome::Complete(needed) => {
-                    output::word(output::COMPLETE);
-                    output::number(needed.0, 5);
+                    output::word(rt, output::COMPLETE)?;
+                    output::number(rt, needed.0, 5)?;
                 }
-                Outcome::Unfinished => output::word(output::UNFINISHED),
+                Outcome::Unfinished => output::word(rt, output::UNFINISHED)?,
             }
-            output::number(r.delivered, 6);
-            output::number(r.ended.0, 6);
-            output::number(r.peak, 6);
-            output::yes_or_no(r.broken);
+            output::number(rt, r.delivered, 6)?;
+            output::number(rt, r.ended.0, 6)?;
+            output::number(rt, r.peak, 6)?;
+            output::yes_or_no(rt, r.broken)
         }
         Answer::Refused(k) => {
-            output::word(output::NOT_RUN);
-            output::small(k, 5);
+            output::word(rt, output::NOT_RUN)?;
+            output::small(rt, k, 5)
         }
     }
 }
@@ -61,16 +62,17 @@ pub(crate) fn read_plan(text: &[u8], plan: &mut [u16]) {
     }
 }
 
-pub(crate) fn checked(t: &[u8], text: &[u8]) {
+pub(crate) fn checked(rt: &impl Print, t: &[u8], text: &[u8]) -> io::Result<()> {
     let mut plan = [0u16; 4];
     let start: usize = 0;
     let n = text.len();
     read_plan(text, &mut plan);
     if n <= 4 {
         let given = &plan[start..n];
-        output::ticket(t);
-        output::list(given, 4, 6);
-        verdict(checker::check(t, given));
-        run(plan_run::run_plan(t, given));
+        output::ticket(rt, t)?;
+        output::list(rt, given, 4, 6)?;
+        verdict(rt, checker::check(t, given))?;
+        run(rt, plan_run::run_plan(t, given))?;
     }
+    Ok(())
 }

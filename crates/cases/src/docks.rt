@@ -3,28 +3,29 @@
 use crate::{output, tables};
 use counting::Position;
 use dock::{Dock, Driven, Step};
+use std::io;
 
 // The dock's counts.
-pub(crate) fn numbers(d: Dock, width: usize) {
-    output::number(d.frames, width);
-    output::number(d.pool, width);
-    output::number(d.delivered, width);
-    output::number(d.holding, width);
-    output::size(d.ended as usize, width);
+pub(crate) fn numbers(rt: &impl Print, d: Dock, width: usize) -> io::Result<()> {
+    output::number(rt, d.frames, width)?;
+    output::number(rt, d.pool, width)?;
+    output::number(rt, d.delivered, width)?;
+    output::number(rt, d.holding, width)?;
+    output::size(rt, d.ended as usize, width)
 }
 
 // The refusal; the dock's counts, and whether it is broken off, any card has read, card 0 has, and card 1 has; the memory.
-fn result(r: Driven, memory: &[u8]) {
+fn result(rt: &impl Print, r: Driven, memory: &[u8]) -> io::Result<()> {
     let d = r.dock;
     let busy = d.busy;
-    output::small(r.refusal, 8);
-    numbers(d, 7);
-    output::yes_or_no(d.broken);
-    output::yes_or_no(d.reading);
-    output::yes_or_no(busy[0]);
-    output::yes_or_no(busy[1]);
-    output::small_list(memory, memory.len(), 5);
-    output::byte(b'\n');
+    output::small(rt, r.refusal, 8)?;
+    numbers(rt, d, 7)?;
+    output::yes_or_no(rt, d.broken)?;
+    output::yes_or_no(rt, d.reading)?;
+    output::yes_or_no(rt, busy[0])?;
+    output::yes_or_no(rt, busy[1])?;
+    output::small_list(rt, memory, memory.len(), 5)?;
+    output::byte(rt, b'\n')
 }
 
 fn step_of(name: &[u8]) -> Step {
@@ -36,26 +37,26 @@ fn step_of(name: &[u8]) -> Step {
     }
 }
 
-fn drive_short(d: Dock, step: Step) -> Dock {
+fn drive_short(rt: &impl Print, d: Dock, step: Step) -> io::Result<Dock> {
     let mut memory = [77u8; 2];
     let r = dock::drive(d, step, &mut memory);
-    result(r, &memory);
-    r.dock
+    result(rt, r, &memory)?;
+    Ok(r.dock)
 }
 
-fn drive(d: Dock, name: &[u8], end: u8, memory: &mut [u8]) -> Dock {
+fn drive(rt: &impl Print, d: Dock, name: &[u8], end: u8, memory: &mut [u8]) -> io::Result<Dock> {
     let step = step_of(name);
-    output::pad(0, 2);
-    output::left(name, 30);
+    output::pad(rt, 0, 2)?;
+    output::left(rt, name, 30)?;
     if end == b'!' {
-        return drive_short(d, step);
+        return drive_short(rt, d, step);
     }
     let r = dock::drive(d, step, memory);
-    result(r, memory);
-    r.dock
+    result(rt, r, memory)?;
+    Ok(r.dock)
 }
 
-fn steps(start: Dock, text: &[u8], memory: &mut [u8]) {
+fn steps(rt: &impl Print, start: Dock, text: &[u8], memory: &mut [u8]) -> io::Result<()> {
     let n = text.len();
     let mut d = start;
     let mut from: usize = 0;
@@ -66,19 +67,20 @@ fn steps(start: Dock, text: &[u8], memory: &mut [u8]) {
         i += 1;
         match b {
             b'!'..=b',' => {
-                d = drive(d, &text[from..at], b, memory);
+                d = drive(rt, d, &text[from..at], b, memory)?;
                 from = i;
             }
             _ => {}
         }
     }
+    Ok(())
 }
 
 // With memory of four places.
-pub(crate) fn driven(t: &[u8], text: &[u8]) {
+pub(crate) fn driven(rt: &impl Print, t: &[u8], text: &[u8]) -> io::Result<()> {
     let mut memory = [77u8; 4];
-    output::ticket(t);
+    output::ticket(rt, t)?;
     let r = dock_start::start(t, &mut memory);
-    result(r, &memory);
-    steps(r.dock, text, &mut memory);
+    result(rt, r, &memory)?;
+    steps(rt, r.dock, text, &mut memory)
 }

@@ -5,6 +5,7 @@ ghost use Rattle.std.specs.Prelude.{◌≤◌};
 use crate::hubs::{PATTERNS, PLACES};
 use crate::{hubs, long_lists, output, tables};
 use planner::Answer;
+use std::io;
 
 // The bytes of a ticket of 64 frames.
 const LONGEST: usize = 15 + 3 * PLACES;
@@ -72,48 +73,48 @@ fn fullest(cards: &[u8]) -> u16 {
 }
 
 // T, or the number of a refusal.
-fn cycles(a: Answer) {
+fn cycles(rt: &impl Print, a: Answer) -> io::Result<()> {
     match a {
-        Answer::Planned(t) => output::number(t.0, 6),
+        Answer::Planned(t) => output::number(rt, t.0, 6),
         Answer::Refused(k) => {
-            output::word(output::NOT_PLANNED);
-            output::small(k, 3);
+            output::word(rt, output::NOT_PLANNED)?;
+            output::small(rt, k, 3)
         }
     }
 }
 
-fn planned_as(mode: u8, pool: usize, cards: &[u8]) {
+fn planned_as(rt: &impl Print, mode: u8, pool: usize, cards: &[u8]) -> io::Result<()> {
     let mut text = [0u8; LONGEST];
     let mut plan = [0u16; PLACES];
     let start: usize = 0;
     put_ticket(&mut text, mode, pool, cards);
     let bytes = bytes_of(cards);
-    cycles(planner::plan(&text[start..bytes], &mut plan));
+    cycles(rt, planner::plan(&text[start..bytes], &mut plan))
 }
 
 // A read and a save.
-fn both(pool: usize, cards: &[u8]) {
-    output::pad(0, 3);
-    planned_as(0, pool, cards);
-    planned_as(1, pool, cards);
+fn both(rt: &impl Print, pool: usize, cards: &[u8]) -> io::Result<()> {
+    output::pad(rt, 0, 3)?;
+    planned_as(rt, 0, pool, cards)?;
+    planned_as(rt, 1, pool, cards)
 }
 
 // The patterns, and with them the cameras. The bound is the largest T with 8 times T at most the frames and 7 times the cameras.
-pub(crate) fn planned(patterns: &[u8], list: &[u8]) {
+pub(crate) fn planned(rt: &impl Print, patterns: &[u8], list: &[u8]) -> io::Result<()> {
     let mut chosen = [0u8; PATTERNS];
     let mut cameras = [0u8; PLACES];
     let mut buffer = [0u8; PLACES];
     let start: usize = 0;
     let s = hubs::within(PATTERNS, patterns.len());
     let n = hubs::within(PLACES, list.len());
-    output::left(patterns, 10);
-    output::left(list, 48);
+    output::left(rt, patterns, 10)?;
+    output::left(rt, list, 48)?;
     hubs::read_numbers(patterns, &mut chosen);
     hubs::read_numbers(list, &mut cameras);
     let lent = &mut buffer[start..n];
-    hubs::answer(hub::gather(&chosen[start..s], &cameras[start..n], lent));
-    output::number(fullest(lent), 9);
-    output::size((n + 7 * s) / 8, 7);
-    both(7 * s, lent);
-    both(7 * s + 1, lent);
+    hubs::answer(rt, hub::gather(&chosen[start..s], &cameras[start..n], lent))?;
+    output::number(rt, fullest(lent), 9)?;
+    output::size(rt, (n + 7 * s) / 8, 7)?;
+    both(rt, 7 * s, lent)?;
+    both(rt, 7 * s + 1, lent)
 }

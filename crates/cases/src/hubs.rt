@@ -5,6 +5,7 @@ ghost use Rattle.std.specs.Prelude.{◌≤◌};
 use crate::{output, tables};
 use firmware::hubs::dockplan_hub;
 use hub::Answer;
+use std::io;
 
 // The most patterns, and the most frames and places, that are shown.
 pub(crate) const PATTERNS: usize = 8;
@@ -25,30 +26,31 @@ pub(crate) fn read_numbers(text: &[u8], numbers: &mut [u8]) {
 }
 
 // The buffer: a card by its digit, and what else stands in it, a letter, as it is.
-fn show_buffer(buffer: &[u8]) {
+fn show_buffer(rt: &impl Print, buffer: &[u8]) -> io::Result<()> {
     let n = buffer.len();
     let mut i: usize = 0;
     while i < n {
         let b = buffer[i];
         i += 1;
         if b < 10 {
-            output::byte(b'0' + b);
+            output::byte(rt, b'0' + b)?;
         } else {
-            output::byte(b);
+            output::byte(rt, b)?;
         }
     }
+    Ok(())
 }
 
-fn numbers(refusal: u8, frames: u16) {
-    output::small(refusal, 9);
-    output::number(frames, 8);
+fn numbers(rt: &impl Print, refusal: u8, frames: u16) -> io::Result<()> {
+    output::small(rt, refusal, 9)?;
+    output::number(rt, frames, 8)
 }
 
 // The refusal, 0 for none, and how many cards were given, 0 beside a refusal.
-pub(crate) fn answer(a: Answer) {
+pub(crate) fn answer(rt: &impl Print, a: Answer) -> io::Result<()> {
     match a {
-        Answer::Gathered(frames) => numbers(0, frames),
-        Answer::Refused(number) => numbers(number, 0),
+        Answer::Gathered(frames) => numbers(rt, 0, frames),
+        Answer::Refused(number) => numbers(rt, number, 0),
     }
 }
 
@@ -60,7 +62,12 @@ pub(crate) fn within(most: usize, n: usize) -> usize
 }
 
 // The patterns, and with them the cameras and a dot for each place that is lent, up to 64. The buffer is lent with letters.
-pub(crate) fn gathered(patterns: &[u8], more: &[u8], library: bool) {
+pub(crate) fn gathered(
+    rt: &impl Print,
+    patterns: &[u8],
+    more: &[u8],
+    library: bool,
+) -> io::Result<()> {
     let mut chosen = [0u8; PATTERNS];
     let mut cameras = [0u8; PLACES];
     let mut buffer = *b"abcdefghijklmnopqrstuvwxyzabcdefghijklmnopqrstuvwxyzabcdefghijkl";
@@ -69,18 +76,18 @@ pub(crate) fn gathered(patterns: &[u8], more: &[u8], library: bool) {
     let s = within(PATTERNS, patterns.len());
     let n = within(PLACES, list.len());
     let places = within(PLACES, tables::after_word(more).len());
-    output::left(patterns, 10);
-    output::left(list, 35);
-    output::size(places, 6);
+    output::left(rt, patterns, 10)?;
+    output::left(rt, list, 35)?;
+    output::size(rt, places, 6)?;
     read_numbers(patterns, &mut chosen);
     read_numbers(list, &mut cameras);
     let lent = &mut buffer[start..places];
     if library {
         let a = dockplan_hub(&chosen[start..s], &cameras[start..n], lent);
-        numbers(a.refusal, a.frames);
+        numbers(rt, a.refusal, a.frames)?;
     } else {
-        answer(hub::gather(&chosen[start..s], &cameras[start..n], lent));
+        answer(rt, hub::gather(&chosen[start..s], &cameras[start..n], lent))?;
     }
-    output::pad(0, 2);
-    show_buffer(lent);
+    output::pad(rt, 0, 2)?;
+    show_buffer(rt, lent)
 }

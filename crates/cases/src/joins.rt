@@ -2,39 +2,41 @@
 use crate::{output, tables};
 use firmware::joins::dockplan_join;
 use join::Answer;
+use std::io;
 
-fn numbers(refusal: u8, bytes: usize) {
-    output::small(refusal, 9);
-    output::size(bytes, 7);
+fn numbers(rt: &impl Print, refusal: u8, bytes: usize) -> io::Result<()> {
+    output::small(rt, refusal, 9)?;
+    output::size(rt, bytes, 7)
 }
 
 // The refusal, 0 for none, and the bytes of the joined ticket, 0 beside a refusal.
-pub(crate) fn answer(a: Answer) {
+pub(crate) fn answer(rt: &impl Print, a: Answer) -> io::Result<()> {
     match a {
-        Answer::Joined(bytes) => numbers(0, bytes),
-        Answer::Refused(number) => numbers(number, 0),
+        Answer::Joined(bytes) => numbers(rt, 0, bytes),
+        Answer::Refused(number) => numbers(rt, number, 0),
     }
 }
 
 // The first ticket, and with it the second and a dot for each place that is lent, up to 64.
-pub(crate) fn joined(first: &[u8], more: &[u8], library: bool) {
+pub(crate) fn joined(rt: &impl Print, first: &[u8], more: &[u8], library: bool) -> io::Result<()> {
     let mut buffer = [b'.'; 64];
     let start: usize = 0;
     let second = tables::word(more);
     let places = tables::after_word(more).len();
     if places <= 64 {
-        output::left(first, 37);
-        output::byte(b' ');
-        output::left(second, 37);
-        output::size(places, 7);
+        output::left(rt, first, 37)?;
+        output::byte(rt, b' ')?;
+        output::left(rt, second, 37)?;
+        output::size(rt, places, 7)?;
         let lent = &mut buffer[start..places];
         if library {
             let a = dockplan_join(first, second, lent);
-            numbers(a.refusal, a.bytes);
+            numbers(rt, a.refusal, a.bytes)?;
         } else {
-            answer(join::join(first, second, lent));
+            answer(rt, join::join(first, second, lent))?;
         }
-        output::pad(0, 2);
-        output::left(lent, 0);
+        output::pad(rt, 0, 2)?;
+        output::left(rt, lent, 0)?;
     }
+    Ok(())
 }

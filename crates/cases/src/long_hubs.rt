@@ -3,6 +3,7 @@ ghost use Rattle.std.specs.Prelude.{◌<◌};
 
 use crate::hubs::PATTERNS;
 use crate::{hubs, long_joins, output, tables};
+use std::io;
 
 // The most frames and places.
 const FRAMES: usize = 65535;
@@ -39,13 +40,13 @@ fn put_cameras(cameras: &mut [u8], layout: u8, s: usize) {
 }
 
 // The answer, and the checksum of the lent buffer afterwards.
-fn call(chosen: &[u8], cameras: &[u8], lent: &mut [u8]) {
-    hubs::answer(hub::gather(chosen, cameras, lent));
-    output::size(long_joins::checksum(lent) as usize, 10);
+fn call(rt: &impl Print, chosen: &[u8], cameras: &[u8], lent: &mut [u8]) -> io::Result<()> {
+    hubs::answer(rt, hub::gather(chosen, cameras, lent))?;
+    output::size(rt, long_joins::checksum(lent) as usize, 10)
 }
 
 // The patterns, and with them the layout, and after another space the frames and the places lent, a letter each.
-pub(crate) fn gathered(patterns: &[u8], more: &[u8]) {
+pub(crate) fn gathered(rt: &impl Print, patterns: &[u8], more: &[u8]) -> io::Result<()> {
     let mut chosen = [0u8; PATTERNS];
     let mut cameras = [0u8; FRAMES];
     let mut buffer = [b'.'; PLACES];
@@ -55,12 +56,12 @@ pub(crate) fn gathered(patterns: &[u8], more: &[u8]) {
     let s = hubs::within(PATTERNS, patterns.len());
     let n = tables::number(tables::byte_at(counts, 0)) as usize;
     let places = hubs::within(PLACES, tables::number(tables::byte_at(counts, 1)) as usize);
-    output::left(patterns, 10);
-    output::left(layout, 8);
-    output::size(n, 6);
-    output::size(places, 8);
+    output::left(rt, patterns, 10)?;
+    output::left(rt, layout, 8)?;
+    output::size(rt, n, 6)?;
+    output::size(rt, places, 8)?;
     hubs::read_numbers(patterns, &mut chosen);
     let list = &mut cameras[start..n];
     put_cameras(list, tables::byte_at(layout, 0), s);
-    call(&chosen[start..s], list, &mut buffer[start..places]);
+    call(rt, &chosen[start..s], list, &mut buffer[start..places])
 }

@@ -3,6 +3,7 @@ ghost use Rattle.std.specs.Prelude.{◌≤◌};
 
 use crate::{joins, long_lists, output, tables};
 use header::Answer;
+use std::io;
 
 // The bytes of an edition 02 ticket of 4,096 frames, and a place for one more.
 const LONG: usize = 15 + 11 * 4096;
@@ -45,38 +46,40 @@ pub(crate) fn checksum(text: &[u8]) -> u64 {
 }
 
 // The answer, the checksum of the lent buffer afterwards, and the refusal of the joined ticket when it is read.
-fn shown(first: &[u8], second: &[u8], lent: &mut [u8]) {
+fn shown(rt: &impl Print, first: &[u8], second: &[u8], lent: &mut [u8]) -> io::Result<()> {
     let start: usize = 0;
     let places = lent.len();
     let a = join::join(first, second, lent);
     let buffer = &lent[..];
-    output::size(places, 6);
-    joins::answer(a);
-    output::size(checksum(buffer) as usize, 10);
+    output::size(rt, places, 6)?;
+    joins::answer(rt, a)?;
+    output::size(rt, checksum(buffer) as usize, 10)?;
     if let join::Answer::Joined(bytes) = a {
         if bytes <= places {
-            output::small(ticket::refusal(&buffer[start..bytes]), 7);
+            output::small(rt, ticket::refusal(&buffer[start..bytes]), 7)?;
         }
     }
+    Ok(())
 }
 
 // The header of the first ticket, and with it that of the second, and a dot where no place is lent.
-pub(crate) fn joined(header: &[u8], more: &[u8]) {
+pub(crate) fn joined(rt: &impl Print, header: &[u8], more: &[u8]) -> io::Result<()> {
     let mut first = [0u8; LONG];
     let mut second = [0u8; LONG];
     let mut buffer = [b'.'; PLACES];
     let start: usize = 0;
     let other = tables::word(more);
     let places = places_of(tables::after_word(more));
-    output::left(header, 17);
-    output::left(other, 17);
+    output::left(rt, header, 17)?;
+    output::left(rt, other, 17)?;
     long_lists::put_ticket(&mut first, header, b'f');
     long_lists::put_ticket(&mut second, other, b's');
     let n = bytes_of(header);
     let k = bytes_of(other);
     shown(
+        rt,
         &first[start..n],
         &second[start..k],
         &mut buffer[start..places],
-    );
+    )
 }

@@ -1,5 +1,6 @@
 // Long lists: 4,096 frames on 32 cards in three layouts. A ticket of the table is a header; its lines are made here, and those of long_joins.rt.
 use crate::{checks, output, plans, tables};
+use std::io;
 
 // The bytes of such a ticket, of edition 01.
 pub(crate) const LONG: usize = 15 + 3 * 4096;
@@ -77,16 +78,16 @@ fn checksum(plan: &[u16]) -> u64 {
     sum
 }
 
-pub(crate) fn planned(header: &[u8], layout: &[u8]) {
+pub(crate) fn planned(rt: &impl Print, header: &[u8], layout: &[u8]) -> io::Result<()> {
     let mut text = [0u8; LONG];
     let mut buffer = [0u16; 4096];
-    output::left(layout, 12);
-    output::left(header, 17);
+    output::left(rt, layout, 12)?;
+    output::left(rt, header, 17)?;
     put_ticket(&mut text, header, tables::byte_at(layout, 0));
     let t: &[u8] = &text;
-    plans::answer(planner::plan(t, &mut buffer));
+    plans::answer(rt, planner::plan(t, &mut buffer))?;
     let plan: &[u16] = &buffer;
-    output::size(checksum(plan) as usize, 10);
-    checks::verdict(checker::check(t, plan));
-    checks::run(plan_run::run_plan(t, plan));
+    output::size(rt, checksum(plan) as usize, 10)?;
+    checks::verdict(rt, checker::check(t, plan))?;
+    checks::run(rt, plan_run::run_plan(t, plan))
 }

@@ -7,6 +7,7 @@ mod counts;
 mod docks;
 mod hub_plans;
 mod hubs;
+mod input;
 mod joins;
 mod library;
 mod long_hubs;
@@ -21,11 +22,11 @@ mod tables;
 mod tickets;
 mod walks;
 
-use libc::STDIN_FILENO;
+use std::io;
 
 // Tables that do not fit into the buffer would be missing from what is printed.
-fn main() {
+fn main(rt: HostRuntime) -> io::Result<()> {
     let mut text = [0u8; 32768];
-    let read = io::read_full(STDIN_FILENO, &mut text);
-    tables::each(&text[..read]);
+    let read = input::fill(&rt, &mut text)?;
+    tables::each(&rt, &text[..read])
 }

@@ -1,5 +1,7 @@
 // What the tables are made of: texts, numbers, lists of numbers and tickets, written to standard output.
-use libc::STDOUT_FILENO;
+ghost use Rattle.std.specs.Prelude.{◌-◌, ◌<◌, ◌≤◌, ◌^◌};
+
+use std::io;
 
 // How wide the column of tickets is.
 const TICKET: usize = 32;
@@ -7,63 +9,76 @@ const TICKET: usize = 32;
 // The byte that ends a line of a ticket.
 const END: u8 = 10;
 
-pub(crate) fn text(b: &[u8]) {
-    io::write_all(STDOUT_FILENO, b);
+pub(crate) fn text(rt: &impl Print, b: &[u8]) -> io::Result<()> {
+    rt.write_all(b)
 }
 
-pub(crate) fn byte(b: u8) {
+pub(crate) fn byte(rt: &impl Print, b: u8) -> io::Result<()> {
     let one = [b; 1];
-    text(&one);
+    text(rt, &one)
 }
 
 // The rest of a column of which so many places are taken.
-pub(crate) fn pad(taken: usize, width: usize) {
+pub(crate) fn pad(rt: &impl Print, taken: usize, width: usize) -> io::Result<()> {
     let mut i = taken;
     while i < width {
-        byte(b' ');
+        byte(rt, b' ')?;
         i += 1;
+    }
+    Ok(())
+}
+
+// How many decimal digits a number has.
+fn digits(n: usize) -> usize
+    ensures one_or_more { 0 < result }
+    ensures enough { n < 10 ^ result }
+    ensures no_more { 1 < result → 10 ^ (result - 1) ≤ n }
+{
+    match n.checked_ilog10() {
+        Some(power) => power as usize + 1,
+        None => 1,
     }
 }
 
 // A number at the right of a column, by its type.
-pub(crate) fn size(n: usize, width: usize) {
-    let mut digits = [0u8; 20];
-    let whole = n as u64;
-    pad(io::decimal(whole, &mut digits), width);
-    io::print_decimal(STDOUT_FILENO, whole);
+pub(crate) fn size(rt: &impl Print, n: usize, width: usize) -> io::Result<()> {
+    pad(rt, digits(n), width)?;
+    rt.print(n)
 }
 
-pub(crate) fn number(n: u16, width: usize) {
-    size(n as usize, width);
+pub(crate) fn number(rt: &impl Print, n: u16, width: usize) -> io::Result<()> {
+    size(rt, n as usize, width)
 }
 
-pub(crate) fn small(n: u8, width: usize) {
-    size(n as usize, width);
+pub(crate) fn small(rt: &impl Print, n: u8, width: usize) -> io::Result<()> {
+    size(rt, n as usize, width)
 }
 
 // The first n places of a list, each at the right of a column; blank past the end of the list.
-pub(crate) fn list(a: &[u16], n: usize, width: usize) {
+pub(crate) fn list(rt: &impl Print, a: &[u16], n: usize, width: usize) -> io::Result<()> {
     let mut i: usize = 0;
     while i < n {
         if i < a.len() {
-            number(a[i], width);
+            number(rt, a[i], width)?;
         } else {
-            pad(0, width);
+            pad(rt, 0, width)?;
         }
         i += 1;
     }
+    Ok(())
 }
 
-pub(crate) fn small_list(a: &[u8], n: usize, width: usize) {
+pub(crate) fn small_list(rt: &impl Print, a: &[u8], n: usize, width: usize) -> io::Result<()> {
     let mut i: usize = 0;
     while i < n {
         if i < a.len() {
-            small(a[i], width);
+            small(rt, a[i], width)?;
         } else {
-            pad(0, width);
+            pad(rt, 0, width)?;
         }
         i += 1;
     }
+    Ok(())
 }
 
 // The words of the tables, in the order of `word`.
@@ -99,7 +114,7 @@ pub(crate) const SAVE: usize = 14;
 
 pub(crate) const CLOSE: usize = 15;
 
-pub(crate) fn word(k: usize) {
+pub(crate) fn word(rt: &impl Print, k: usize) -> io::Result<()> {
     let words = b"\x20  valid               |   cycle 0       |   shares a card |   overfull      |\
         \x20  refused       |   complete  |   unfinished     |   refused   |T      |refused|     yes|\
         \x20     no| none|new  |\nsave |\nclose|";
@@ -112,59 +127,63 @@ pub(crate) fn word(k: usize) {
         if b == b'|' {
             before += 1;
         } else if before == k {
-            byte(b);
+            byte(rt, b)?;
         }
     }
+    Ok(())
 }
 
-pub(crate) fn yes_or_no(yes: bool) {
-    if yes {
-        word(YES);
-    } else {
-        word(NO);
-    }
+pub(crate) fn yes_or_no(rt: &impl Print, yes: bool) -> io::Result<()> {
+    if yes { word(rt, YES) } else { word(rt, NO) }
 }
 
 // A number that belongs to a card, as card:number, unless it is the number that stands for none. Whether any was shown so far.
-pub(crate) fn of_card(shown: bool, card: usize, n: u16, none: u16) -> bool {
+pub(crate) fn of_card(
+    rt: &impl Print,
+    shown: bool,
+    card: usize,
+    n: u16,
+    none: u16,
+) -> io::Result<bool> {
     if n == none {
-        return shown;
+        return Ok(shown);
     }
-    byte(b' ');
-    size(card, 0);
-    byte(b':');
-    number(n, 0);
-    true
+    byte(rt, b' ')?;
+    size(rt, card, 0)?;
+    byte(rt, b':')?;
+    number(rt, n, 0)?;
+    Ok(true)
 }
 
 // The end of such numbers.
-pub(crate) fn of_cards(shown: bool) {
+pub(crate) fn of_cards(rt: &impl Print, shown: bool) -> io::Result<()> {
     if !shown {
-        word(NONE);
+        word(rt, NONE)?;
     }
+    Ok(())
 }
 
 // A text at the left of a column, with / for the end byte.
-pub(crate) fn left(t: &[u8], width: usize) {
+pub(crate) fn left(rt: &impl Print, t: &[u8], width: usize) -> io::Result<()> {
     let n = t.len();
     let mut i: usize = 0;
     while i < n {
         let b = t[i];
         i += 1;
         if b == END {
-            byte(b'/');
+            byte(rt, b'/')?;
         } else {
-            byte(b);
+            byte(rt, b)?;
         }
     }
-    pad(n, width);
+    pad(rt, n, width)
 }
 
 // A ticket in its column.
-pub(crate) fn ticket(t: &[u8]) {
+pub(crate) fn ticket(rt: &impl Print, t: &[u8]) -> io::Result<()> {
     if t.len() == 0 {
-        left(b"(nothing)", TICKET);
+        left(rt, b"(nothing)", TICKET)
     } else {
-        left(t, TICKET);
+        left(rt, t, TICKET)
     }
 }

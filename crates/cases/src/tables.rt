@@ -8,34 +8,35 @@ use crate::{
     checks, counts, docks, hub_plans, hubs, joins, library, long_hubs, long_joins, long_lists,
     output, plans, printed, refusals, savers, tickets, walks,
 };
+use std::io;
 
 // Shows an entry as the letter says; a capital is for a long list or the library's calls.
-fn show_as(how: u8, t: &[u8], more: &[u8]) {
+fn show_as(rt: &impl Print, how: u8, t: &[u8], more: &[u8]) -> io::Result<()> {
     match how {
-        b'a' => tickets::accepted(t),
-        b'l' => tickets::lines(t),
-        b'e' => tickets::seconds(t),
-        b'w' => walks::walked(t),
-        b'W' => walks::walked_far(t, more),
-        b'r' => refusals::refused(t),
-        b't' => refusals::too_short(t),
-        b'p' => plans::planned(t, more),
-        b'P' => long_lists::planned(t, more),
-        b'b' => printed::printed(t, more),
-        b'j' => joins::joined(t, more, false),
-        b'J' => joins::joined(t, more, true),
-        b'L' => long_joins::joined(t, more),
-        b'g' => hubs::gathered(t, more, false),
-        b'G' => hubs::gathered(t, more, true),
-        b'h' => hub_plans::planned(t, more),
-        b'H' => long_hubs::gathered(t, more),
-        b'c' => checks::checked(t, more),
-        b'n' => counts::counted(t, more),
-        b'C' => library::called(t, more),
-        b'd' => docks::driven(t, more),
-        b's' => savers::series(t, more, false),
-        b'S' => savers::series(t, more, true),
-        _ => {}
+        b'a' => tickets::accepted(rt, t),
+        b'l' => tickets::lines(rt, t),
+        b'e' => tickets::seconds(rt, t),
+        b'w' => walks::walked(rt, t),
+        b'W' => walks::walked_far(rt, t, more),
+        b'r' => refusals::refused(rt, t),
+        b't' => refusals::too_short(rt, t),
+        b'p' => plans::planned(rt, t, more),
+        b'P' => long_lists::planned(rt, t, more),
+        b'b' => printed::printed(rt, t, more),
+        b'j' => joins::joined(rt, t, more, false),
+        b'J' => joins::joined(rt, t, more, true),
+        b'L' => long_joins::joined(rt, t, more),
+        b'g' => hubs::gathered(rt, t, more, false),
+        b'G' => hubs::gathered(rt, t, more, true),
+        b'h' => hub_plans::planned(rt, t, more),
+        b'H' => long_hubs::gathered(rt, t, more),
+        b'c' => checks::checked(rt, t, more),
+        b'n' => counts::counted(rt, t, more),
+        b'C' => library::called(rt, t, more),
+        b'd' => docks::driven(rt, t, more),
+        b's' => savers::series(rt, t, more, false),
+        b'S' => savers::series(rt, t, more, true),
+        _ => Ok(()),
     }
 }
 
@@ -73,13 +74,13 @@ pub(crate) fn after_word(text: &[u8]) -> &[u8] {
 }
 
 // Shows an entry, and ends its last line.
-fn show(how: u8, entry: &[u8]) {
-    show_as(how, word(entry), after_word(entry));
-    output::byte(b'\n');
+fn show(rt: &impl Print, how: u8, entry: &[u8]) -> io::Result<()> {
+    show_as(rt, how, word(entry), after_word(entry))?;
+    output::byte(rt, b'\n')
 }
 
 // Prints each text and shows each entry. What stands after the last mark is neither.
-pub(crate) fn each(table: &[u8]) {
+pub(crate) fn each(rt: &impl Print, table: &[u8]) -> io::Result<()> {
     let n = table.len();
     let mut how: u8 = 0;
     let mut from: usize = 0;
@@ -89,16 +90,17 @@ pub(crate) fn each(table: &[u8]) {
         let b = table[at];
         i += 1;
         if b == b'#' {
-            output::text(&table[from..at]);
+            output::text(rt, &table[from..at])?;
             from = i;
         } else if b == b'|' {
-            show(how, &table[from..at]);
+            show(rt, how, &table[from..at])?;
             from = i;
         } else if b == b'>' {
             how = table[from];
             from = i;
         }
     }
+    Ok(())
 }
 
 // A byte of an entry, 0 past its end.
