@@ -12,7 +12,6 @@ use Rattle.counting.specs.Frames.{card_of}
 use Rattle.counting.proofs.Bits.{by_cases}
 use Rattle.schedule.specs.Loads.{fullest}
 use Rattle.schedule.proofs.Main.{even_save, even_read, even_bound, save_demand_T, read_demand_T}
-use Rattle.header.specs.Limits.{ReadOrSave}
 use Rattle.header.specs.declared.Header.{Header}
 use Rattle.ticket.specs.Ticket.{Parsed, accepted, refused, parse}
 use Rattle.planner.specs.Plan.{plan_of, buffer_after}
@@ -20,7 +19,7 @@ use Rattle.planner.specs.Numbers.{numbers_of}
 use Rattle.planner.specs.Demand3.{Demand3}
 use Rattle.planner.specs.declared.Answer.TheVariants.{Planned}
 use Rattle.planner.proofs.Main.{demand_3}
-use Rattle.hub.specs.Fullest.{TakesFullest}
+use Rattle.hub.specs.Fullest.{ReadOrSave, TakesFullest}
 use Rattle.hub.specs.Gather.{hub_cards}
 use Rattle.hub.specs.Grounds.{Known, Seen}
 use Rattle.hub.specs.Patterns.{hub_size}
@@ -45,7 +44,7 @@ module _ (chosen cameras : List ℕ) (known : Known chosen) (seen : Seen chosen 
   low : (i : ℕ) → i < length cards → card_of cards i < hub_size
   low = inside_hub chosen cameras known seen
 
-  module _ (text : List ℕ) (h : Header) (e : parse text ≡ accepted h cards) (mode : ReadOrSave h.mode) (room : 7 * S < h.pool) where
+  module _ (text : List ℕ) (h : Header) (e : parse text ≡ accepted h cards) (mode : ReadOrSave h) (room : 7 * S < h.pool) where
     -- of whatever numbers and buffer demand 3 holds
     pub demand_fullest :
         (refusal T : ℕ) (buffer : List ℕ) → Demand3 text refusal T buffer → length cards ≤ length buffer

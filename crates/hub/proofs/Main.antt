@@ -7,12 +7,12 @@ use mathlib.Core.List.{List, reverse, map}
 use lib.ListN.{length}
 use Rattle.counting.specs.Count.{largest}
 use Rattle.schedule.specs.Loads.{fullest, Even}
-use Rattle.header.specs.Limits.{ReadOrSave, Within, mode_save, max_pool, max_frames}
+use Rattle.header.specs.Limits.{Within, mode_save, max_pool, max_frames}
 use Rattle.header.specs.declared.Header.{Header}
 use Rattle.ticket.specs.Ticket.{accepted, parse, counts_of}
 use Rattle.planner.specs.Demand3.{Demand3}
 use Rattle.hub.specs.Cases.{Case, told, asked, expected, card_cases, tight_cases}
-use Rattle.hub.specs.Fullest.{hub_header, hub_ticket, TakesFullest, Gathering}
+use Rattle.hub.specs.Fullest.{ReadOrSave, hub_header, hub_ticket, TakesFullest, Gathering}
 use Rattle.hub.specs.Gather.{hub_cards, answer_for, Answered}
 use Rattle.hub.specs.Grounds.{Known, Seen, Says}
 use Rattle.hub.specs.Numbers.{numbers_of}
@@ -67,7 +67,7 @@ module _ (chosen cameras : List ℕ) (known : Known chosen) (seen : Seen chosen 
 
   -- It follows from the planner's contract alone: the same holds of any number of a refusal, T and buffer that demand 3 is kept by.
   pub hub_demand :
-      (text : List ℕ) (h : Header) → parse text ≡ accepted h (hub_cards chosen cameras) → ReadOrSave h.mode → 7 * length chosen < h.pool
+      (text : List ℕ) (h : Header) → parse text ≡ accepted h (hub_cards chosen cameras) → ReadOrSave h → 7 * length chosen < h.pool
       → (refusal T : ℕ) (buffer : List ℕ) → Demand3 text refusal T buffer → length cameras ≤ length buffer
       → (refusal ≡ 0) × (T ≡ fullest hub_size (hub_cards chosen cameras))
   hub_demand = tickets.hub_demand chosen cameras known seen

@@ -10,12 +10,12 @@ use Rattle.counting.specs.Count.{largest}
 use Rattle.counting.specs.Frames.{card_of}
 use Rattle.schedule.specs.Loads.{fullest}
 use Rattle.schedule.proofs.Main.{fullest_wider}
-use Rattle.header.specs.Limits.{ReadOrSave, Within, mode_save, max_cards, max_pool, max_frames}
+use Rattle.header.specs.Limits.{Within, mode_save, max_cards, max_pool, max_frames}
 use Rattle.header.specs.declared.Header.{Header}
 use Rattle.ticket.specs.Ticket.{accepted, parse, counts_of}
 use Rattle.ticket.proofs.Main.{written_edition_1}
 use Rattle.planner.specs.Demand3.{Demand3}
-use Rattle.hub.specs.Fullest.{hub_header, hub_ticket}
+use Rattle.hub.specs.Fullest.{ReadOrSave, hub_header, hub_ticket}
 use Rattle.hub.specs.Gather.{hub_cards}
 use Rattle.hub.specs.Grounds.{Known, Seen}
 use Rattle.hub.specs.Patterns.{hub_size}
@@ -46,7 +46,7 @@ module _ (chosen cameras : List ℕ) (known : Known chosen) (seen : Seen chosen 
       })
 
   pub hub_demand :
-      (text : List ℕ) (h : Header) → parse text ≡ accepted h cards → ReadOrSave h.mode → 7 * length chosen < h.pool
+      (text : List ℕ) (h : Header) → parse text ≡ accepted h cards → ReadOrSave h → 7 * length chosen < h.pool
       → (refusal T : ℕ) (buffer : List ℕ) → Demand3 text refusal T buffer → length cameras ≤ length buffer
       → (refusal ≡ 0) × (T ≡ fullest hub_size cards)
   hub_demand text h e mode room refusal T buffer d l =

@@ -4,7 +4,10 @@
 use Rattle.std.specs.Prelude.{ℕ, zero, suc, ◌+◌, ◌*◌, List, [], ◌∷◌, ◌++◌, length, replicate}
 use Rattle.schedule.specs.Loads.{fullest}
 use Rattle.header.specs.Limits.{mode_read, mode_save}
-use Rattle.planner.specs.Cases.{answered_for}
+use Rattle.ticket.specs.Print.{ticket_for}
+use Rattle.ticket.specs.Ticket.{parse}
+use Rattle.planner.specs.Numbers.{numbers_of}
+use Rattle.planner.specs.Plan.{plan_of}
 use Rattle.hub.specs.Gather.{hub_cards}
 use Rattle.hub.specs.Patterns.{hub_size}
 
@@ -26,11 +29,15 @@ pub data Told : Type 0 where
   -- 8 × T, beside L + 7 × S
   share : ℕ → ℕ → Told
 
+-- the T that `plan` answers for the edition 01 ticket of a list
+abbrev planned : ℕ → ℕ → List ℕ → ℕ
+planned mode pool list = (numbers_of (plan_of (parse (ticket_for mode pool list)) (length list))).cycles.0
+
 abbrev to_take : ℕ → ℕ → List ℕ → Told
-to_take mode pool list = takes (answered_for mode pool list) (fullest hub_size list)
+to_take mode pool list = takes (planned mode pool list) (fullest hub_size list)
 
 abbrev to_share : ℕ → ℕ → List ℕ → List ℕ → Told
-to_share mode pool chosen list = share (8 * answered_for mode pool list) (length list + 7 * length chosen)
+to_share mode pool chosen list = share (8 * planned mode pool list) (length list + 7 * length chosen)
 
 abbrev pub told : Asked → Told
 told (cards_for chosen cameras) = cards (hub_cards chosen cameras)
