@@ -1,7 +1,6 @@
 -- What the check leaves to say of `pass`.
-use Prim.Native.Nat.{◌≤◌, ◌-◌}
+use Prim.Native.Nat.{◌≤◌}
 use mathlib.Core.Path.{sym, ◌∙◌}
-use mathlib.Core.Logic.{⊎_elim}
 use native.Mathlib.Omega.{arith}
 use Rattle.greedy_pass.proofs.Tables.{Open}
 use Rattle.greedy_pass.proofs.Tables as tables

@@ -1,7 +1,6 @@
 -- What the loops of `pass` keep.
 use Prim.Native.Nat.{◌-◌}
 use Rattle.greedy_pass.proofs.Tables.{Turn}
-use Rattle.greedy_pass.proofs.Tables as tables
 use Rattle.greedy_pass.proofs.pass.Given as goal
 
 abbrev pub invariant-loop-k : goal.invariant-loop-k

@@ -1,7 +1,5 @@
 -- What the check leaves to say of `steps::read_frame`.
 use mathlib.Core.Path.{sym, ◌∙◌}
-use mathlib.Core.Bool.{true}
-use Rattle.dock.specs.Drive.{takes_buffer}
 use Rattle.dock.proofs.Taken.{read_past_list, read_card_busy, read_no_buffer, read_buffer}
 use Rattle.dock.proofs.steps.read_frame.Goals as goal
 

@@ -1,5 +1,4 @@
 -- What the check leaves to say of `by_sets::clear`.
-use Prim.Native.Nat.{◌-◌}
 use mathlib.Core.Path.{sym, ◌∙◌}
 use Rattle.plan_faults.proofs.ClearFrames.{clear_all}
 use Rattle.plan_faults.proofs.Seen.{sets_first, no_cycle_ends, member_ends, seen_next, cycle_low, no_member}

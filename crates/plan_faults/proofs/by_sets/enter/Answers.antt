@@ -1,5 +1,4 @@
 -- What the check leaves to say of `by_sets::enter`.
-use Prim.Native.Nat.{◌-◌}
 use native.Mathlib.Omega.{arith}
 use Rattle.plan_faults.proofs.Seen.{sets_next, clear_not_member, cycle_low}
 use Rattle.plan_faults.proofs.by_sets.enter.Goals as goal

@@ -1,5 +1,4 @@
 -- What the check leaves to say of `rising::rising`.
-use Prim.Native.Nat.{◌-◌}
 use Rattle.plan_faults.proofs.Rises.{rising_next}
 use Rattle.plan_faults.proofs.rising.rising.Goals as goal
 

@@ -1,5 +1,4 @@
 -- What the check leaves to say of `searched::clear`.
-use Prim.Native.Nat.{◌-◌}
 use mathlib.Core.Path.{sym, ◌∙◌}
 use Rattle.plan_faults.proofs.ClearFrames.{clear_all}
 use Rattle.plan_faults.proofs.Rises.{no_cycle_stops, shared_stops}

@@ -1,5 +1,4 @@
 -- What the check leaves to say of `searched::shared`.
-use Prim.Native.Nat.{◌-◌}
 use Rattle.plan_faults.proofs.Sharing.{is_shared}
 use Rattle.plan_faults.proofs.searched.shared.Goals as goal
 

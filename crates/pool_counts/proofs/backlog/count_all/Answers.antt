@@ -1,5 +1,4 @@
 -- What the check leaves to say of `backlog::count_all`.
-use Prim.Native.Nat.{◌-◌}
 use mathlib.Core.Path.{sym, ◌∙◌}
 use native.Mathlib.Omega.{arith}
 use Rattle.pool_counts.proofs.Counting.{looking_few, looking_counts, looking_skips}

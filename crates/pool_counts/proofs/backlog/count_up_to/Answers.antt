@@ -1,5 +1,4 @@
 -- What the check leaves to say of `backlog::count_up_to`.
-use Prim.Native.Nat.{◌-◌}
 use Rattle.pool_counts.proofs.Counting.{found_m, looked_all}
 use Rattle.pool_counts.proofs.backlog.count_up_to.Goals as goal
 

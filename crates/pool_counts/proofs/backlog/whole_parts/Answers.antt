@@ -1,5 +1,4 @@
 -- What the check leaves to say of `backlog::whole_parts`.
-use Prim.Native.Nat.{◌-◌}
 use native.Mathlib.Omega.{arith}
 use Rattle.pool_counts.proofs.Counting.{part_few, looking_part}
 use Rattle.pool_counts.proofs.backlog.whole_parts.Goals as goal

@@ -1,5 +1,4 @@
 -- What the check leaves to say of `plans::roomy_read`.
-use Prim.Native.Nat.{◌-◌}
 use native.Mathlib.Omega.{arith}
 use Rattle.pool_counts.proofs.Frames.{roomy_ends, read_ahead, read_covered, read_all}
 use Rattle.pool_counts.proofs.plans.roomy_read.Goals as goal

@@ -1,7 +1,5 @@
 -- What the check leaves to say of `plans::roomy_save`.
-use Prim.Native.Nat.{◌-◌}
 use mathlib.Core.Path.{sym, ◌∙◌}
-use mathlib.Core.Bool.{true}
 use native.Mathlib.Omega.{arith}
 use Rattle.pool_counts.proofs.Frames.{roomy_ends, roomy_all, all_have_room}
 use Rattle.pool_counts.proofs.plans.roomy_save.Goals as goal

@@ -1,5 +1,4 @@
 -- What the check leaves to say of `reads::roomy`.
-use Prim.Native.Nat.{◌-◌}
 use native.Mathlib.Omega.{arith}
 use Rattle.pool_counts.proofs.Frames.{read_covered, read_all}
 use Rattle.pool_table.proofs.ReadTurns.{entry_is, table_ends, table_ahead}

@@ -1,5 +1,4 @@
 -- What the check leaves to say of `saves::roomy`.
-use Prim.Native.Nat.{◌-◌}
 use native.Mathlib.Omega.{arith}
 use Rattle.pool_table.proofs.SaveTurns.{full_below, due_le, save_moves}
 use Rattle.pool_table.proofs.SaveTurns.{save_ends, due_small, save_next, save_all}

@@ -1,5 +1,4 @@
 -- What the check leaves to say of `table::add_up`.
-use Prim.Native.Nat.{◌-◌}
 use native.Mathlib.Omega.{arith}
 use Rattle.pool_table.proofs.Adding.{add_first, add_small, add_next}
 use Rattle.pool_table.proofs.table.add_up.Goals as goal

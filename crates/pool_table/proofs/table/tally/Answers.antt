@@ -1,5 +1,4 @@
 -- What the check leaves to say of `table::tally`.
-use Prim.Native.Nat.{◌-◌}
 use native.Mathlib.Omega.{arith}
 use Rattle.pool_table.proofs.Adding.{tally_small}
 use Rattle.pool_table.proofs.table.tally.Goals as goal
