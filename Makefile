@@ -42,14 +42,15 @@ examples: program
 	  target/bin/dockplan < $$t | cmp - $${t%.ticket}.plan || exit 1; \
 	done; echo "examples: the program printed the plan beside each of the $$(ls examples/*.ticket | wc -l) tickets"
 
-# proves the program and what it stands on, and builds it; the first time takes a minute or two
+# proves the program and what it stands on, and builds it, by a run on no input; the first time takes some minutes
 program:
-	@out=$$(rt check dockplan 2>&1) || { echo "$$out"; exit 1; }
+	@out=$$(cd crates/dockplan && rt run < /dev/null 2>&1) || { echo "$$out"; exit 1; }
+	@mkdir -p target/bin && cp crates/dockplan/out/dockplan target/bin/dockplan
 
 # the same for the library, which is built again when a file of a crate has changed
-$(LIBRARY): crates.txt $(shell find crates -name '*.rt' -o -name '*.antt')
-	@out=$$(rt staticlib firmware 2>&1) || { echo "$$out"; exit 1; }
-	@mkdir -p $(dir $@) && cp target/staticlib/libfirmware.a $@
+$(LIBRARY): crates.txt $(shell find crates -name out -prune -o '(' -name '*.rt' -o -name '*.antt' ')' -print)
+	@out=$$(cd crates/firmware_c && rt lib 2>&1) || { echo "$$out"; exit 1; }
+	@mkdir -p $(dir $@) && cp crates/firmware_c/out/libfirmware_c.a $@
 
 firmware: $(LIBRARY)
 	@$(CC_WARNED) examples/firmware.c $(LIBRARY) -o target/firmware

@@ -74,6 +74,17 @@ def own_words(paths):
     return own
 
 
+def aliases(paths):
+    """The names that a file gives to what it brings in."""
+    return {
+        word
+        for path in paths
+        for line in re.findall(r"^(?:ghost )?use [^;]*", read(path), re.M)
+        for word in re.findall(r" as ([a-z]\w*)", line)
+        if turnable(word)
+    }
+
+
 def foreign(text, crates):
     """The words that a file brings in from elsewhere."""
     out = set()
@@ -160,6 +171,8 @@ def main(argv):
     paths = sorted(p for p in glob.glob("crates/*/specs/**/*.antt", recursive=True) + glob.glob("crates/*/proofs/**/*.antt", recursive=True))
     crates = {p.split("/")[1] for p in glob.glob("crates/*/src")}
     own = own_words(paths)
+    for word in aliases(paths + glob.glob("crates/*/src/**/*.rt", recursive=True)):
+        own.setdefault(word, snake(word))
     if "--list" in argv:
         for word in sorted(own):
             print(word, own[word])

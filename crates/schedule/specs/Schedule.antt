@@ -15,11 +15,11 @@ cycle_of cycles i = get_or cycles i 0
 abbrev pub cycles_in : List ℕ → ℕ
 cycles_in cycles = largest cycles
 
--- The earlier frames that have a cycle equal to or later than i's: |{j < i : o_step(j) ≥ o_step(i)}|.
+-- The earlier frames that have a cycle equal to or later than i's: |{j < i : oStep(j) ≥ oStep(i)}|.
 abbrev pub o_backlog : List ℕ → ℕ → ℕ
 o_backlog cycles i = how_many i (λ j. leb (cycle_of cycles i) (cycle_of cycles j))
 
--- The later frames that have a cycle equal to or earlier than i's: |{j > i : i_step(j) ≤ i_step(i)}|.
+-- The later frames that have a cycle equal to or earlier than i's: |{j > i : iStep(j) ≤ iStep(i)}|.
 abbrev pub i_backlog : List ℕ → ℕ → ℕ
 i_backlog cycles i = how_many (length cycles) (λ j. ltb i j && leb (cycle_of cycles j) (cycle_of cycles i))
 

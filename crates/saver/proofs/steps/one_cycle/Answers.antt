@@ -1,6 +1,5 @@
 -- What the check leaves to say of `steps::one_cycle`.
 use Rattle.saver.proofs.Sorting.{place_below, sort_writes, sort_keeps}
-use Prim.Native.Nat.{◌-◌}
 use native.Mathlib.Omega.{arith}
 use Rattle.saver.proofs.steps.one_cycle.Goals as goal
 
