@@ -5,6 +5,7 @@ use crate::rules::PLACES;
 use crate::tickets::Text;
 use crate::{lists, report, rules, tickets};
 use hub::Answer;
+use std::io;
 use std::num::{wrapping_add_u64, wrapping_sub_u64};
 
 // The frames of an answer, or 1,000 and the number of a refusal.
@@ -40,12 +41,19 @@ fn sevens(c: Case) -> u64 {
 
 // With a pool of one more than seven for each camera: T against the load of the fullest card; and whether 8 times T is at most the frames and seven
 // for each camera.
-fn compare_plan(counts: &mut Counts, c: Case, text: Text, mode: u8, fullest: u64) {
+fn compare_plan(
+    rt: &impl Print,
+    counts: &mut Counts,
+    c: Case,
+    text: Text,
+    mode: u8,
+    fullest: u64,
+) -> io::Result<()> {
     let seven = sevens(c);
     let t = tickets::cycles(text, c.frames, mode, wrapping_add_u64(seven, 1)) as u64;
-    report::compare(counts, report::CYCLES, c, fullest, t);
+    report::compare(rt, counts, report::CYCLES, c, fullest, t)?;
     let within = 8 * t <= wrapping_add_u64(c.frames, seven);
-    report::compare(counts, report::BOUNDS, c, 1, bit(within));
+    report::compare(rt, counts, report::BOUNDS, c, 1, bit(within))
 }
 
 // With a pool of seven for each camera, where there are more frames than that: whether it takes a cycle more.
@@ -57,14 +65,22 @@ fn count_longer(counts: &mut Counts, c: Case, text: Text, mode: u8, fullest: u64
     }
 }
 
-fn compare_mode(counts: &mut Counts, c: Case, text: Text, mode: u8, fullest: u64) {
-    compare_plan(counts, c, text, mode, fullest);
+fn compare_mode(
+    rt: &impl Print,
+    counts: &mut Counts,
+    c: Case,
+    text: Text,
+    mode: u8,
+    fullest: u64,
+) -> io::Result<()> {
+    compare_plan(rt, counts, c, text, mode, fullest)?;
     count_longer(counts, c, text, mode, fullest);
+    Ok(())
 }
 
 // One list with one choice of patterns. The hub is lent two places more than the longest list has frames. What is compared is the frames of the answer,
 // or a refusal, with 2 to the power of 20 more for each place that is unlike.
-fn compare_one(counts: &mut Counts, c: Case) {
+fn compare_one(rt: &impl Print, counts: &mut Counts, c: Case) -> io::Result<()> {
     let patterns = lists::patterns(c);
     let cameras = lists::cameras(c);
     let wanted = rules::cards(c, patterns, cameras);
@@ -75,15 +91,22 @@ fn compare_one(counts: &mut Counts, c: Case) {
         &mut buffer,
     ));
     let got = wrapping_add_u64(answer, unlike(wanted, buffer) << 20);
-    report::compare(counts, report::CARDS, c, c.frames, got);
+    report::compare(rt, counts, report::CARDS, c, c.frames, got)?;
     let text = tickets::text_of(buffer, c.frames);
     let fullest = rules::fullest(wanted);
-    compare_mode(counts, c, text, tickets::READ, fullest);
-    compare_mode(counts, c, text, tickets::SAVE, fullest);
+    compare_mode(rt, counts, c, text, tickets::READ, fullest)?;
+    compare_mode(rt, counts, c, text, tickets::SAVE, fullest)
 }
 
 // All lists of so many frames, in runs of so many, each with the first so many choices of patterns.
-fn compare_lists(counts: &mut Counts, cameras: u64, frames: u64, run: u64, choices: u64) {
+fn compare_lists(
+    rt: &impl Print,
+    counts: &mut Counts,
+    cameras: u64,
+    frames: u64,
+    run: u64,
+    choices: u64,
+) -> io::Result<()> {
     let total = lists::how_many(cameras, lists::runs(frames, run));
     let mut number: u64 = 0;
     while number < total {
@@ -96,29 +119,31 @@ fn compare_lists(counts: &mut Counts, cameras: u64, frames: u64, run: u64, choic
                 number: number,
                 choice: choice,
             };
-            compare_one(counts, c);
+            compare_one(rt, counts, c)?;
             choice += 1;
         }
         number += 1;
     }
+    Ok(())
 }
 
 // The same for all lists of a number of frames from one up to another. Writes how many they are, each counted once for a choice of patterns.
 pub(crate) fn compare_all(
+    rt: &impl Print,
     counts: &mut Counts,
     cameras: u64,
     from: u64,
     to: u64,
     run: u64,
     choices: u64,
-) {
+) -> io::Result<()> {
     let before = report::add(counts, report::CARDS, 0);
     let last = to % 25;
     let mut frames = from;
     while frames <= last {
-        compare_lists(counts, cameras, frames, run, choices);
+        compare_lists(rt, counts, cameras, frames, run, choices)?;
         frames += 1;
     }
     let made = wrapping_sub_u64(report::add(counts, report::CARDS, 0), before);
-    report::covered(cameras, from, to, run, choices, made);
+    report::covered(rt, cameras, from, to, run, choices, made)
 }

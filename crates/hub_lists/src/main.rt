@@ -9,18 +9,20 @@ mod report;
 mod rules;
 mod tickets;
 
+use std::io;
+
 // For so many cameras, all lists of a number of frames from one up to another, in runs of so many of one camera, each with so many choices of patterns.
-fn main() {
+fn main(rt: HostRuntime) -> io::Result<()> {
     let mut counts = [0u64; 32];
-    report::heading();
-    compare::compare_all(&mut counts, 1, 0, 24, 1, 8);
-    compare::compare_all(&mut counts, 2, 0, 12, 1, 64);
-    compare::compare_all(&mut counts, 3, 0, 9, 1, 64);
-    compare::compare_all(&mut counts, 4, 0, 6, 1, 64);
-    compare::compare_all(&mut counts, 5, 0, 5, 1, 64);
-    compare::compare_all(&mut counts, 6, 0, 5, 1, 64);
-    compare::compare_all(&mut counts, 2, 16, 16, 1, 16);
-    compare::compare_all(&mut counts, 4, 24, 24, 4, 64);
-    compare::compare_all(&mut counts, 6, 24, 24, 8, 64);
-    report::summary(counts);
+    report::heading(&rt)?;
+    compare::compare_all(&rt, &mut counts, 1, 0, 24, 1, 8)?;
+    compare::compare_all(&rt, &mut counts, 2, 0, 12, 1, 64)?;
+    compare::compare_all(&rt, &mut counts, 3, 0, 9, 1, 64)?;
+    compare::compare_all(&rt, &mut counts, 4, 0, 6, 1, 64)?;
+    compare::compare_all(&rt, &mut counts, 5, 0, 5, 1, 64)?;
+    compare::compare_all(&rt, &mut counts, 6, 0, 5, 1, 64)?;
+    compare::compare_all(&rt, &mut counts, 2, 16, 16, 1, 16)?;
+    compare::compare_all(&rt, &mut counts, 4, 24, 24, 4, 64)?;
+    compare::compare_all(&rt, &mut counts, 6, 24, 24, 8, 64)?;
+    report::summary(&rt, counts)
 }

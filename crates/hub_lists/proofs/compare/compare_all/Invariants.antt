@@ -3,7 +3,7 @@ use Rattle.std.proofs.Common.{◌+◌, ◌-◌, ◌≤◌}
 use Rattle.hub_lists.proofs.compare.compare_all.Given as goal
 
 abbrev pub invariant-loop-frames : goal.invariant-loop-frames
-invariant-loop-frames l = l.last ≤ 24
+invariant-loop-frames g l = l.last ≤ 24
 
 abbrev pub decreases-loop-frames : goal.decreases-loop-frames
-decreases-loop-frames l = l.last + 1 - l.frames
+decreases-loop-frames g l = l.last + 1 - l.frames
