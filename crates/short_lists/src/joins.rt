@@ -7,6 +7,7 @@ use crate::lists::at;
 use crate::runs::bit;
 use crate::{cycles, lists, report};
 use join::Answer;
+use std::io;
 use std::num::wrapping_add_u64;
 
 // Two tickets: how many frames each has, the frames of the first and then those of the second in one list, and their pool of m.
@@ -102,22 +103,29 @@ fn answer_of(a: Answer) -> u64 {
 }
 
 // T of a joined ticket, which is accepted, so not 127, and not below T of either ticket.
-fn compare_cycles(counts: &mut report::Counts, first: &[u8], second: &[u8], joined: &[u8]) {
+fn compare_cycles(
+    rt: &impl Print,
+    counts: &mut report::Counts,
+    first: &[u8],
+    second: &[u8],
+    joined: &[u8],
+) -> io::Result<()> {
     let t = cycles(joined);
     let wrong = (t < cycles(first)) | (t < cycles(second)) | (t == 127);
     report::compare(
+        rt,
         counts,
         report::JOINED_CYCLES,
         report::NO_KIND,
         t,
         0,
         bit(wrong),
-    );
+    )
 }
 
 // One pair. What is compared is the bytes, or a refusal, with 2 to the power of 20 more for each place that is unlike. The two tickets are written
 // lower case, and the joined one is expected in upper case.
-fn compare_pair(counts: &mut report::Counts, p: Pair) {
+fn compare_pair(rt: &impl Print, counts: &mut report::Counts, p: Pair) -> io::Result<()> {
     let before = report::add(counts, report::WRITTEN, 0);
     let both = wrapping_add_u64(p.first, p.second);
     let texts = text_of(p.frames, 0, p.first, p.m, b'a');
@@ -129,23 +137,25 @@ fn compare_pair(counts: &mut report::Counts, p: Pair) {
     let bytes = bytes_of(both);
     let wrong = unlike(text_of(own_join(p), 0, both, p.m, b'A'), bytes, buffer);
     report::compare(
+        rt,
         counts,
         report::JOINS,
         report::NO_KIND,
         0,
         bytes as u64,
         wrapping_add_u64(answer, wrong << 20),
-    );
-    compare_cycles(counts, first, second, &buffer[0..bytes]);
+    )?;
+    compare_cycles(rt, counts, first, second, &buffer[0..bytes])?;
     if report::add(counts, report::WRITTEN, 0) != before {
-        io::write_all(libc::STDOUT_FILENO, first);
-        io::write_all(libc::STDOUT_FILENO, second);
+        rt.write_all(first)?;
+        rt.write_all(second)?;
     }
+    Ok(())
 }
 
 // All pairs of lists of up to 3 frames, each with pools 1 to 3. There are 1, 4 * 2, 10 * 4 and 20 * 8 lists of 0 to 3 frames, for their seconds and
 // cards: 209, and so 43,681 pairs.
-pub(crate) fn compare_all(counts: &mut report::Counts) {
+pub(crate) fn compare_all(rt: &impl Print, counts: &mut report::Counts) -> io::Result<()> {
     let mut turn: u64 = 0;
     while turn < 48 {
         let first = turn % 4;
@@ -160,10 +170,11 @@ pub(crate) fn compare_all(counts: &mut report::Counts) {
                 m: turn / 16 + 1,
             };
             if timed(p) {
-                compare_pair(counts, p);
+                compare_pair(rt, counts, p)?;
             }
             number += 1;
         }
         turn += 1;
     }
+    Ok(())
 }

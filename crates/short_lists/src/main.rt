@@ -19,6 +19,7 @@ mod steps;
 mod tickets;
 mod verdicts;
 
+use std::io;
 use tickets::Case;
 
 // The planner's answer to a ticket, as greedy.rt writes a schedule: the plan, with the zeros that were lent behind it, and T, or 127 for a
@@ -39,32 +40,34 @@ fn cycles(ticket: &[u8]) -> u64 {
 }
 
 // One ticket: its plan against greedy_writing; then what else is compared of it. After differences that were written out comes their ticket.
-fn one_ticket(counts: &mut report::Counts, c: Case) {
+fn one_ticket(rt: &impl Print, counts: &mut report::Counts, c: Case) -> io::Result<()> {
     let before = report::add(counts, report::WRITTEN, 0);
     let text = tickets::text_of(c);
     let ticket = &text[0..tickets::bytes_of(c.n)];
     let plan = planned(ticket);
     report::compare(
+        rt,
         counts,
         report::PLANS,
         report::NO_KIND,
         0,
         greedy::schedule(c),
         plan,
-    );
+    )?;
     if c.mode == tickets::SAVE {
-        saves::compare_saver(counts, c);
+        saves::compare_saver(rt, counts, c)?;
     }
-    steps::compare_all(counts, ticket, c, plan);
-    schedules::compare_fewest(counts, ticket, c, plan);
-    shifts::compare_all(counts, c, lists::at(plan, greedy::MADE));
+    steps::compare_all(rt, counts, ticket, c, plan)?;
+    schedules::compare_fewest(rt, counts, ticket, c, plan)?;
+    shifts::compare_all(rt, counts, c, lists::at(plan, greedy::MADE))?;
     if report::add(counts, report::WRITTEN, 0) != before {
-        io::write_all(libc::STDOUT_FILENO, ticket);
+        rt.write_all(ticket)?;
     }
+    Ok(())
 }
 
 // All lists of 0 to 8 frames, each with pools 1 to 4 in the three modes; then the joined ones.
-fn main() {
+fn main(rt: HostRuntime) -> io::Result<()> {
     let mut counts = [0u64; 64];
     let mut n: u64 = 0;
     while n < 9 {
@@ -80,13 +83,13 @@ fn main() {
                     n: n,
                     cards: lists::numbered(number, 2),
                 };
-                one_ticket(&mut counts, c);
+                one_ticket(&rt, &mut counts, c)?;
                 turn += 1;
             }
             number += 1;
         }
         n += 1;
     }
-    joins::compare_all(&mut counts);
-    report::summary(&counts);
+    joins::compare_all(&rt, &mut counts)?;
+    report::summary(&rt, &counts)
 }

@@ -2,6 +2,7 @@
 use crate::tickets::Case;
 use crate::{greedy, lists, report, rules, tickets};
 use pool_counts::backlog::backlog;
+use std::io;
 
 // The product's count for frame i of up to 8, as rules.rt has it; 99 where there is no such frame.
 fn counted(save: bool, plan: &[u16], i: usize, m: u16) -> u64 {
@@ -17,7 +18,12 @@ fn counted(save: bool, plan: &[u16], i: usize, m: u16) -> u64 {
 }
 
 // A difference is written out with the schedule, which has the frame's position behind 8 cycles.
-pub(crate) fn compare_counts(counts: &mut report::Counts, c: Case, plan: u64) {
+pub(crate) fn compare_counts(
+    rt: &impl Print,
+    counts: &mut report::Counts,
+    c: Case,
+    plan: u64,
+) -> io::Result<()> {
     let cycles = lists::to_array(plan);
     let n = (c.n % 9) as usize;
     let mut i: usize = 0;
@@ -30,13 +36,15 @@ pub(crate) fn compare_counts(counts: &mut report::Counts, c: Case, plan: u64) {
             (c.m % 100) as u16,
         );
         report::compare(
+            rt,
             counts,
             report::POOL_COUNTS,
             report::NO_KIND,
             lists::with(plan, greedy::MADE, position),
             rules::own_count(c, plan, position),
             found,
-        );
+        )?;
         i += 1;
     }
+    Ok(())
 }

@@ -1,6 +1,6 @@
 // The counters, and what the program writes: the first difference of each topic, and at the end all counts.
 // An answer that is compared is one number: a list, or a number of cycles.
-use libc::STDOUT_FILENO;
+use std::io;
 
 // Counters. Each of the first 21 has the line of its own number in the text.
 pub(crate) type Counts = [u64; 64];
@@ -120,7 +120,7 @@ pub(crate) fn add(counts: &mut Counts, i: usize, n: u64) -> u64 {
 }
 
 // Writes the lines of the text from one number up to another.
-fn say(counts: &Counts, from: usize, to: usize) {
+fn say(rt: &impl Print, counts: &Counts, from: usize, to: usize) -> io::Result<()> {
     let text = text();
     let mut line: usize = 0;
     let mut i: usize = 0;
@@ -128,9 +128,9 @@ fn say(counts: &Counts, from: usize, to: usize) {
         let b = text[i];
         if (from <= line) & (line < to) {
             if b < 128 {
-                io::write_all(STDOUT_FILENO, &text[i..i + 1]);
+                rt.write_all(&text[i..i + 1])?;
             } else {
-                io::print_decimal(STDOUT_FILENO, counts[(b % 64) as usize]);
+                rt.print(counts[(b % 64) as usize])?;
             }
         }
         if b == 10 {
@@ -138,21 +138,23 @@ fn say(counts: &Counts, from: usize, to: usize) {
         }
         i += 1;
     }
+    Ok(())
 }
 
 // One comparison, for a schedule or a list of steps, which is counted with its kind. The first difference of a topic is written out.
 pub(crate) fn compare(
+    rt: &impl Print,
     counts: &mut Counts,
     topic: usize,
     kind: usize,
     item: u64,
     expected: u64,
     got: u64,
-) {
+) -> io::Result<()> {
     add(counts, topic, 1);
     add(counts, kind, 1);
     if expected == got {
-        return;
+        return Ok(());
     }
     add(counts, DIFFERENCES, 1);
     if add(counts, std::num::wrapping_add_usize(topic, TOPICS), 1) == 1 {
@@ -160,16 +162,17 @@ pub(crate) fn compare(
         counts[GOT] = got;
         counts[ITEM] = item;
         add(counts, WRITTEN, 1);
-        say(counts, topic, std::num::wrapping_add_usize(topic, 1));
-        say(counts, FIRST, FIRST + 1);
+        say(rt, counts, topic, std::num::wrapping_add_usize(topic, 1))?;
+        say(rt, counts, FIRST, FIRST + 1)?;
     }
+    Ok(())
 }
 
-pub(crate) fn summary(counts: &Counts) {
-    say(counts, 0, NONE);
+pub(crate) fn summary(rt: &impl Print, counts: &Counts) -> io::Result<()> {
+    say(rt, counts, 0, NONE)?;
     if counts[DIFFERENCES] == 0 {
-        say(counts, NONE, SOME);
+        say(rt, counts, NONE, SOME)
     } else {
-        say(counts, SOME, FIRST);
+        say(rt, counts, SOME, FIRST)
     }
 }

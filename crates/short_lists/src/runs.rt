@@ -2,6 +2,7 @@
 use crate::tickets::Case;
 use crate::{bench, lists, report};
 use plan_run::{Answer, Outcome};
+use std::io;
 use std::num::wrapping_add_u64;
 
 // 1 where it is so, and 0 where not.
@@ -37,7 +38,14 @@ fn answer_of(a: Answer) -> u64 {
 }
 
 // The run of a schedule of t cycles.
-pub(crate) fn compare_run(counts: &mut report::Counts, ticket: &[u8], c: Case, plan: u64, t: u64) {
+pub(crate) fn compare_run(
+    rt: &impl Print,
+    counts: &mut report::Counts,
+    ticket: &[u8],
+    c: Case,
+    plan: u64,
+    t: u64,
+) -> io::Result<()> {
     let b = bench::run(c, plan, t);
     let mut outcome: u64 = 0;
     if b.delivered == c.n {
@@ -47,11 +55,12 @@ pub(crate) fn compare_run(counts: &mut report::Counts, ticket: &[u8], c: Case, p
     let cycles = lists::to_array(plan);
     let ran = plan_run::run_plan(ticket, &cycles[0..(c.n % 9) as usize]);
     report::compare(
+        rt,
         counts,
         report::RUNS,
         report::NO_KIND,
         plan,
         wanted,
         answer_of(ran),
-    );
+    )
 }

@@ -6,6 +6,7 @@ use crate::tickets::Case;
 use crate::{greedy, report};
 use header::limits;
 use saver::{Answer, Saver};
+use std::io;
 
 // Notes the cycle of every position that a call wrote. A position that is not a frame of the card that wrote it, or was written before, is
 // noted as 99 at the last place.
@@ -55,7 +56,12 @@ fn same_record(a: Saver, b: Saver) -> bool {
 const WRITTEN: u64 = 567382630219905;
 
 // A closing cycle with an empty pool: refusal 14 with the record as it was, no cycle, and nothing written.
-fn compare_refused(counts: &mut report::Counts, c: Case, s: Saver)
+fn compare_refused(
+    rt: &impl Print,
+    counts: &mut report::Counts,
+    c: Case,
+    s: Saver,
+) -> io::Result<()>
     requires { Given s }
 {
     let a = s.close();
@@ -67,13 +73,14 @@ fn compare_refused(counts: &mut report::Counts, c: Case, s: Saver)
         99
     };
     report::compare(
+        rt,
         counts,
         report::SAVERS,
         report::NO_KIND,
         0,
         with(WRITTEN, greedy::MADE, 14),
         with(note(WRITTEN, c, a), greedy::MADE, refusal as u64),
-    );
+    )
 }
 
 // A saver, and the cycles that were noted.
@@ -115,18 +122,24 @@ fn save_list(c: Case) -> Saved
 }
 
 // The cycles made and noted against greedy_writing.
-pub(crate) fn compare_saver(counts: &mut report::Counts, c: Case) {
+pub(crate) fn compare_saver(
+    rt: &impl Print,
+    counts: &mut report::Counts,
+    c: Case,
+) -> io::Result<()> {
     let s = save_list(c);
     let saver = s.saver;
     let made = saver.made.0 as u64;
     report::compare(
+        rt,
         counts,
         report::SAVERS,
         report::NO_KIND,
         0,
         greedy::greedy_writing(c),
         with(s.cycles, greedy::MADE, made),
-    );
-    compare_refused(counts, c, saver);
+    )?;
+    compare_refused(rt, counts, c, saver)?;
     report::add(counts, report::CYCLES, made);
+    Ok(())
 }

@@ -3,6 +3,7 @@
 use crate::runs::bit;
 use crate::tickets::Case;
 use crate::{cycles, lists, report, tickets};
+use std::io;
 use std::num::wrapping_add_u64;
 
 // The list with a frame more at a place: those behind it stand one place later.
@@ -40,26 +41,32 @@ fn shift(t: u64, u: u64) -> u64 {
 
 // One shift, which is at least as much as the least that is allowed.
 fn compare_shift(
+    rt: &impl Print,
     counts: &mut report::Counts,
     topic: usize,
     item: u64,
     least: u64,
     kinds: [usize; 3],
     shift: u64,
-) {
+) -> io::Result<()> {
     let wrong = (shift < least) | (2 < shift);
     let kind = if wrong {
         report::NO_KIND
     } else {
         kinds[(shift % 3) as usize]
     };
-    report::compare(counts, topic, kind, item, 0, bit(wrong));
+    report::compare(rt, counts, topic, kind, item, 0, bit(wrong))
 }
 
 // All shifts of one ticket of t cycles. The item is three times the place, and the card.
-pub(crate) fn compare_all(counts: &mut report::Counts, c: Case, t: u64) {
+pub(crate) fn compare_all(
+    rt: &impl Print,
+    counts: &mut report::Counts,
+    c: Case,
+    t: u64,
+) -> io::Result<()> {
     if (7 < c.n) | (c.mode == tickets::SAVE_AND_KEEP) {
-        return;
+        return Ok(());
     }
     let mut item: u64 = 0;
     while item < 24 {
@@ -68,13 +75,14 @@ pub(crate) fn compare_all(counts: &mut report::Counts, c: Case, t: u64) {
         if (place < c.n) & (lists::at(c.cards, place) != card) {
             let other = cycles_with(c, c.n, lists::with(c.cards, place, card));
             compare_shift(
+                rt,
                 counts,
                 report::OTHER_CARD,
                 item,
                 0,
                 [report::FEWER, report::EQUAL, report::MORE],
                 shift(t, other),
-            );
+            )?;
         }
         if place <= c.n {
             let longer = cycles_with(
@@ -83,14 +91,16 @@ pub(crate) fn compare_all(counts: &mut report::Counts, c: Case, t: u64) {
                 with_frame(c.cards, place, card),
             );
             compare_shift(
+                rt,
                 counts,
                 report::FRAME_MORE,
                 item,
                 1,
                 [report::NO_KIND, report::NONE_ADDED, report::ONE_ADDED],
                 shift(t, longer),
-            );
+            )?;
         }
         item += 1;
     }
+    Ok(())
 }

@@ -7,6 +7,7 @@ use crate::tickets::Case;
 use crate::{bench, greedy, lists, report, tickets};
 use counting::Position;
 use dock::{Dock, Step};
+use std::io;
 use std::num::wrapping_add_u64;
 
 // The step of this number, as the product takes it.
@@ -43,6 +44,7 @@ fn unlike(b: Bench, cards: u64, d: Dock, memory: [u8; 8]) -> u64 {
 // any card has read in this cycle, frames handed over, cycles ended, frames held. Answers the cycles needed, and 65,535 where not everything
 // is handed over.
 fn compare_docks(
+    rt: &impl Print,
     counts: &mut report::Counts,
     c: Case,
     steps: u64,
@@ -50,7 +52,7 @@ fn compare_docks(
     refusal: u8,
     d: Dock,
     memory: [u8; 8],
-) -> u64 {
+) -> io::Result<u64> {
     let wrong = wrapping_add_u64(refusal as u64, unlike(b, c.cards, d, memory));
     let expected = lists::list(
         0,
@@ -74,14 +76,15 @@ fn compare_docks(
         kind = report::COMPLETE;
         needed = b.needed;
     }
-    report::compare(counts, report::DOCKS, kind, steps, expected, got);
-    needed
+    report::compare(rt, counts, report::DOCKS, kind, steps, expected, got)?;
+    Ok(needed)
 }
 
 // All lists of steps that go on from these by up to `left` steps: a read and a drop of each frame, and the end of the cycle. The two docks are
 // as the steps left them; these are a list, the last one first, each as one more than its number. Answers the fewest cycles needed by one of
 // the lists.
 fn explore(
+    rt: &impl Print,
     left: u64,
     counts: &mut report::Counts,
     c: Case,
@@ -90,10 +93,10 @@ fn explore(
     refusal: u8,
     d: Dock,
     memory: [u8; 8],
-) -> u64 {
-    let mut fewest = compare_docks(counts, c, steps, b, refusal, d, memory);
+) -> io::Result<u64> {
+    let mut fewest = compare_docks(rt, counts, c, steps, b, refusal, d, memory)?;
     if left == 0 {
-        return fewest;
+        return Ok(fewest);
     }
     let choices = 2 * (c.n % 4) + 1;
     let mut number: u64 = 0;
@@ -103,6 +106,7 @@ fn explore(
         let there = driven.dock;
         let longer = (steps << 7) | wrapping_add_u64(number, 1);
         let found = explore(
+            rt,
             left - 1,
             counts,
             c,
@@ -111,26 +115,33 @@ fn explore(
             driven.refusal,
             there,
             after,
-        );
+        )?;
         if found < fewest {
             fewest = found;
         }
         number += 1;
     }
-    fewest
+    Ok(fewest)
 }
 
 // All lists of steps for a read of 1 to 3 frames, and their fewest cycles against the planner's T. With up to 8 steps, 7 for 3 frames, a read
 // of each and the ends of up to n cycles fit, and no T is above n: so T is reached.
-pub(crate) fn compare_all(counts: &mut report::Counts, ticket: &[u8], c: Case, plan: u64) {
+pub(crate) fn compare_all(
+    rt: &impl Print,
+    counts: &mut report::Counts,
+    ticket: &[u8],
+    c: Case,
+    plan: u64,
+) -> io::Result<()> {
     if (c.mode != tickets::READ) | (c.n == 0) | (3 < c.n) {
-        return;
+        return Ok(());
     }
     let mut memory = [0u8; 8];
     let started = dock_start::start(ticket, &mut memory);
     let empty = started.dock;
     let longest = if c.n < 3 { 8 } else { 7 };
     let fewest = explore(
+        rt,
         longest,
         counts,
         c,
@@ -139,13 +150,14 @@ pub(crate) fn compare_all(counts: &mut report::Counts, ticket: &[u8], c: Case, p
         started.refusal,
         empty,
         memory,
-    );
+    )?;
     report::compare(
+        rt,
         counts,
         report::STEPS,
         report::NO_KIND,
         0,
         fewest,
         lists::at(plan, greedy::MADE),
-    );
+    )
 }

@@ -3,6 +3,7 @@ use crate::rules::Judged;
 use crate::tickets::Case;
 use crate::{bench, greedy, lists, report, rules, runs, tickets};
 use checker::Verdict;
+use std::io;
 
 // A verdict is a list of the kind of fault, its position and the peak. T, which may be up to 65,535, takes the last three of the 9 places.
 fn verdict(kind: u64, position: u64, t: u64, peak: u64) -> u64 {
@@ -47,43 +48,52 @@ fn wanted(c: Case, plan: u64, judged: Judged, t: u64) -> u64 {
 }
 
 pub(crate) fn compare_verdict(
+    rt: &impl Print,
     counts: &mut report::Counts,
     ticket: &[u8],
     c: Case,
     plan: u64,
     judged: Judged,
-) {
+) -> io::Result<()> {
     let kind = report::KINDS + ((judged.kind % 4) as usize);
     report::compare(
+        rt,
         counts,
         report::VERDICTS,
         kind,
         plan,
         wanted(c, plan, judged, judged.cycles),
         checked(ticket, c.n, lists::to_array(plan)),
-    );
+    )
 }
 
 // Request 2026-05: a read plan without cycle 0 or a shared card and cycle, which are all its faults where every frame has a buffer, is valid exactly
 // where the peak of its run there is within the pool.
-pub(crate) fn compare_peak(counts: &mut report::Counts, ticket: &[u8], c: Case, plan: u64) {
+pub(crate) fn compare_peak(
+    rt: &impl Print,
+    counts: &mut report::Counts,
+    ticket: &[u8],
+    c: Case,
+    plan: u64,
+) -> io::Result<()> {
     if c.mode != tickets::READ {
-        return;
+        return Ok(());
     }
     let judged = rules::own_verdict(roomy(c), plan);
     if judged.kind != rules::NO_FAULT {
-        return;
+        return Ok(());
     }
     let run = bench::run(roomy(c), plan, judged.cycles);
     let seen = checked(ticket, c.n, lists::to_array(plan));
     report::compare(
+        rt,
         counts,
         report::PEAKS,
         report::NO_KIND,
         plan,
         runs::bit(run.peak <= c.m),
         runs::bit(lists::at(seen, 0) == rules::NO_FAULT),
-    );
+    )
 }
 
 // A cycle up to 4 as a late one, over 4,096: 8,000 times as large, so that cycles are far apart, or 65,531 later, so that they are close and
@@ -107,19 +117,21 @@ fn late_cycles(plan: u64, close: bool) -> [u16; 8] {
 // The verdict on a schedule of up to 4 frames with late cycles: only T is another. A difference is written out with the schedule as it was, and 1
 // behind 8 cycles where the late ones are close.
 pub(crate) fn compare_late(
+    rt: &impl Print,
     counts: &mut report::Counts,
     ticket: &[u8],
     c: Case,
     plan: u64,
     judged: Judged,
     close: bool,
-) {
+) -> io::Result<()> {
     report::compare(
+        rt,
         counts,
         report::LATE_VERDICTS,
         report::NO_KIND,
         lists::with(plan, greedy::MADE, runs::bit(close)),
         wanted(c, plan, judged, late(judged.cycles, close) as u64),
         checked(ticket, c.n, late_cycles(plan, close)),
-    );
+    )
 }
