@@ -1,5 +1,4 @@
 -- What the check leaves to say of `largest`.
-use Prim.Native.Nat.{◌-◌}
 use native.Mathlib.Omega.{arith}
 use Rattle.counting.proofs.Lists.{largest_take}
 use Rattle.hub.proofs.largest.Goals as goal

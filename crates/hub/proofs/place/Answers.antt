@@ -1,5 +1,4 @@
 -- What the check leaves to say of `place`.
-use Prim.Native.Nat.{◌-◌}
 use native.Mathlib.Omega.{arith}
 use lib.ListN.{get_or}
 use Rattle.hub.proofs.Placing.{placing_eight, all_placed}

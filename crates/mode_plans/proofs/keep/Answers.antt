@@ -1,5 +1,4 @@
 -- What the check leaves to say of `keep`.
-use Prim.Native.Nat.{◌-◌}
 use native.Mathlib.Omega.{arith}
 use Rattle.counting.proofs.Firsts.{replaced_next}
 use Rattle.mode_plans.proofs.keep.Goals as goal

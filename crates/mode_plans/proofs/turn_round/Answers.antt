@@ -1,5 +1,4 @@
 -- What the check leaves to say of `turn_round`.
-use Prim.Native.Nat.{◌-◌}
 use mathlib.Core.Path.{refl}
 use native.Mathlib.Omega.{arith}
 use Rattle.counting.proofs.Firsts.{replaced_next}

@@ -1,5 +1,4 @@
 -- What the check leaves to say of `words::put_eight`.
-use Prim.Native.Nat.{◌-◌}
 use mathlib.Core.Path.{◌∙◌}
 use native.Mathlib.Omega.{arith}
 use lib.ListN.{length-set}

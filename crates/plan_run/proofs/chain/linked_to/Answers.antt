@@ -1,7 +1,6 @@
 -- What the check leaves to say of `chain::linked_to`.
 use borrow.Author.Rules.{rules}
 use native.Mathlib.Omega.{arith}
-use Prim.Native.Nat.{◌-◌}
 use mathlib.Core.Path.{◌≡◌}
 use Rattle.plan_run.proofs.Cycles.{cycle_ends, cycles_next}
 use Rattle.plan_run.proofs.chain.linked_to.Goals as goal

@@ -1,6 +1,5 @@
 -- What the check leaves to say of `chain::reads`.
 use borrow.Author.Rules.{rules}
-use Prim.Native.Nat.{◌-◌}
 use mathlib.Core.Path.{refl}
 use Rattle.plan_run.proofs.Chains.{turn_first, turn_next}
 use Rattle.plan_run.proofs.chain.reads.Goals as goal

@@ -1,5 +1,4 @@
 -- What the check leaves to say of `cycle::cycles_to`.
-use Prim.Native.Nat.{◌-◌}
 use mathlib.Core.Path.{◌≡◌}
 use native.Mathlib.Omega.{arith}
 use Rattle.plan_run.proofs.Cycles as cycles

@@ -3,7 +3,6 @@ use Prim.Native.Nat.{◌≤◌, ◌-◌}
 use mathlib.Core.Path.{◌≡◌}
 use lib.ListN.{length}
 use Rattle.plan_run.specs.Cycles.{Next, CyclesMade}
-use Rattle.plan_run.proofs.Cycles as cycles
 use Rattle.plan_run.proofs.cycle.cycles_to.Given as goal
 
 abbrev pub invariant-loop-t : goal.invariant-loop-t

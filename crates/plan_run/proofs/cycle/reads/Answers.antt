@@ -1,6 +1,5 @@
 -- What the check leaves to say of `cycle::reads`.
 use mathlib.Core.Path.{◌≡◌}
-use Prim.Native.Nat.{◌-◌}
 use native.Mathlib.Omega.{arith}
 use lib.ListN.{length}
 use Rattle.plan_run.proofs.Cycles as cycles

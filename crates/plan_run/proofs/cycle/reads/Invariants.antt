@@ -3,7 +3,6 @@ use mathlib.Core.Path.{◌≡◌}
 use Prim.Native.Nat.{◌≤◌, ◌-◌}
 use lib.ListN.{length}
 use Rattle.plan_run.specs.Cycles.{ReadsMade}
-use Rattle.plan_run.proofs.Cycles as cycles
 use Rattle.plan_run.proofs.cycle.reads.Given as goal
 
 abbrev pub invariant-loop-i : goal.invariant-loop-i

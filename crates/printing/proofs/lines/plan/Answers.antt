@@ -1,5 +1,4 @@
 -- What the check leaves to say of `lines::plan`.
-use Prim.Native.Nat.{◌-◌}
 use native.Mathlib.Omega.{arith}
 use Rattle.printing.proofs.Listed.{plan_long, no_lines, next_line, put_all}
 use Rattle.print_lines.proofs.Outcome.{no_room}
