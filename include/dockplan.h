@@ -103,7 +103,7 @@ typedef struct {
 
 /* Reads a whole ticket, its lines too, and answers what its header says. Refusals 1 to 9 and 17. */
 dockplan_ticket_answer dockplan_parse(const uint8_t *ticket, size_t bytes);
-#define DOCKPLAN_STACK_PARSE 6608
+#define DOCKPLAN_STACK_PARSE 10720
 
 /* A part of the caller's ticket: `length` bytes from byte `offset` on. */
 typedef struct {
@@ -115,12 +115,12 @@ typedef struct {
  * of its second, without the end byte. With a refusal (1 to 9 and 17, then 16) offset and length are 0; the number is
  * dockplan_line_refusal's. */
 dockplan_part dockplan_line(const uint8_t *ticket, size_t bytes, dockplan_position position);
-#define DOCKPLAN_STACK_LINE 6624
+#define DOCKPLAN_STACK_LINE 10736
 
 /* The number that goes with dockplan_line: 0, the ticket's own refusal (1 to 9 and 17), or 16 for a position not
  * below L. */
 uint8_t dockplan_line_refusal(const uint8_t *ticket, size_t bytes, dockplan_position position);
-#define DOCKPLAN_STACK_LINE_REFUSAL 6608
+#define DOCKPLAN_STACK_LINE_REFUSAL 10720
 
 /* How many frames each of the 32 cards has. */
 typedef struct {
@@ -130,7 +130,7 @@ typedef struct {
 
 /* Counts the frames of each card. Refusals 1 to 9 and 17. */
 dockplan_counts_answer dockplan_counts(const uint8_t *ticket, size_t bytes);
-#define DOCKPLAN_STACK_COUNTS 6704
+#define DOCKPLAN_STACK_COUNTS 10832
 
 /* ---- The plan ------------------------------------------------------------------------------------------------ */
 
@@ -173,7 +173,7 @@ typedef struct {
  * enough. The tickets are only read, so both may be the same memory. */
 dockplan_join_answer dockplan_join(const uint8_t *first, size_t first_bytes, const uint8_t *second,
                                    size_t second_bytes, uint8_t *ticket, size_t places);
-#define DOCKPLAN_STACK_JOIN 6688
+#define DOCKPLAN_STACK_JOIN 10800
 
 /* ---- A field hub with eight cards ---------------------------------------------------------------------------- */
 
@@ -203,7 +203,7 @@ typedef struct {
  * DOCKPLAN_MAX_FRAMES places are always enough. */
 dockplan_hub_answer dockplan_hub(const uint8_t *patterns, size_t cameras, const uint8_t *list, size_t frames,
                                  uint8_t *cards, size_t places);
-#define DOCKPLAN_STACK_HUB 120
+#define DOCKPLAN_STACK_HUB 168
 
 /* ---- Plans that anyone made ---------------------------------------------------------------------------------- */
 
@@ -230,7 +230,7 @@ typedef struct {
  * Otherwise the lowest position at fault is named, with the first of its faults in the order above. Refusals 1 to 9
  * and 17, then 12 for mode 02, then 11 where `places` is not L. */
 dockplan_check_answer dockplan_check(const uint8_t *ticket, size_t bytes, const uint16_t *plan, size_t places);
-#define DOCKPLAN_STACK_CHECK 23088
+#define DOCKPLAN_STACK_CHECK 28864
 
 /* A plan's run on the dock: whether a step was against the rules (broken), the frames handed over, the cycles that
  * ended, whether all frames were handed over (complete; with no frames they are) and the cycles needed for it, 0 if
@@ -250,7 +250,7 @@ typedef struct {
  * list order, then the end of the cycle. A step against the rules breaks the run off. The ticket's mode is not looked
  * at. Refusals 1 to 9 and 17, then 11 where `places` is not L. */
 dockplan_run_answer dockplan_run_plan(const uint8_t *ticket, size_t bytes, const uint16_t *plan, size_t places);
-#define DOCKPLAN_STACK_RUN_PLAN 23408
+#define DOCKPLAN_STACK_RUN_PLAN 27392
 
 /* ---- The saver: frames saved as they come -------------------------------------------------------------------- */
 
@@ -295,7 +295,7 @@ dockplan_saver_answer dockplan_saver_save(dockplan_saver saver, uint8_t card);
 /* Makes one closing cycle; ask until it is refused by 14, when the pool is empty. The first one that is not refused
  * begins closing: no frame is taken from then on. */
 dockplan_saver_answer dockplan_saver_close(dockplan_saver saver);
-#define DOCKPLAN_STACK_SAVER_CLOSE 1680
+#define DOCKPLAN_STACK_SAVER_CLOSE 1296
 
 #ifdef __cplusplus
 }

@@ -1,5 +1,5 @@
 -- The frame lines of a ticket (document 01, "The ticket, edition 1" and "Grounds for turning a ticket or call down", and request 2026-02): a
--- frame's card, its capture second, and the refusals 7, 8, 17 and 9. The editions differ in `line_digits` and `second_digits_at` alone.
+-- frame's card, its capture second, and the refusals 7, 8, 17 and 9. The editions differ in `line_digits` and `second_digits` alone.
 --
 -- Edge cases: no lines at all; a part cut short is refused by 7 at the line that is cut; the first line's second may be any.
 -- Assumes nothing.

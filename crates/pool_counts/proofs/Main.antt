@@ -13,7 +13,7 @@ use Rattle.pool_counts.proofs.Ends as ends
 use Rattle.pool_counts.proofs.Cases as table
 
 module _ (save : Bool) (m : ℕ) (cycles : List ℕ) (i : ℕ) (l : i < length cycles) where
-  -- The rule's frames, all of them: those that count are the full count of the paper's o_backlog or i_backlog.
+  -- The rule's frames, all of them: those that count are the full count of the paper's oBacklog or iBacklog.
   pub count_whole : count_among save cycles i (length (compared save cycles i)) ≡ backlog_of save cycles i
   count_whole = counting.count_whole save cycles i l
 

@@ -1,4 +1,4 @@
--- greedy_writing, save and keep, and lazy prefetching, as published (document 01, "Rules from document 000"; the paper, section 3).
+-- greedyWriting, save and keep, and lazy prefetching, as published (document 01, "Rules from document 000"; the paper, section 3).
 --
 -- greedy_writing is run on a plan in the making: each frame that has entered has the cycle that wrote it, or 0 while it waits in the pool.
 -- Edge cases: with m = 1 every frame but the first makes a cycle; with m at least the number of frames all cycles are closing ones;
@@ -56,7 +56,7 @@ module _ (cards : List ℕ) where
   flush zero p = p
   flush (suc k) p = cond (eqb (in_pool p.cycles) 0) p (flush k (one_cycle p))
 
--- "greedy_writing without the closing cycles; frames left in the pool have cycle 0, and T is the number of cycles made"
+-- "greedyWriting without the closing cycles; frames left in the pool have cycle 0, and T is the number of cycles made"
 unfoldable pub save_and_keep : ℕ → List ℕ → Plan
 save_and_keep m cards = save_first cards m (length cards)
 
@@ -69,7 +69,7 @@ greedy_writing m cards = flush cards (length cards) (save_and_keep m cards)
 abbrev pub turn_round : ℕ → List ℕ → List ℕ
 turn_round T cycles = reverse (map (λ c. T - c + 1) cycles)
 
--- "Lazy prefetching: greedy_writing on the reversed list, with length T; a frame written there in cycle c is read in cycle T − c + 1."
+-- "Lazy prefetching: greedyWriting on the reversed list, with length T; a frame written there in cycle c is read in cycle T − c + 1."
 unfoldable pub lazy_prefetching : ℕ → List ℕ → Plan
 lazy_prefetching m cards =
     let written : Plan = greedy_writing m (reverse cards) in

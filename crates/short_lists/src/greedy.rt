@@ -1,4 +1,4 @@
-// greedy_writing, lazy prefetching and save and keep, as document 01 tells them: a pool, and cycles that are made one by one. A schedule is
+// greedyWriting, lazy prefetching and save and keep, as document 01 tells them: a pool, and cycles that are made one by one. A schedule is
 // the list of the frames' cycles, with the number of cycles made, which is T in the end, behind 8 of them.
 // Of the first `entered` frames of the list, those whose cycle is 0 wait in the pool.
 use crate::lists::{at, with};

@@ -15,7 +15,7 @@ use counting::Position;
 use header::{Answer, Header, editions, limits};
 
 // A ticket that was read. The card of frame i stands at place i; places past the last frame are 0, and beside a refusal all are.
-#[derive(Drop)]
+#[derive(Clone, Copy)]
 pub struct Ticket {
     pub answer: Answer,
     pub card: [u8; limits::FRAMES],
