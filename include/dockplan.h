@@ -58,7 +58,8 @@
 extern "C" {
 #endif
 
-/* The version of this header: 107 for 1.7. It grows whenever a call is added or changed, or uses more stack. */
+/* The version of this header: 107 for 1.7. It grows whenever a call is added or changed, or uses more stack by its own
+ * code. A newer compiler alone does not move it: take the figures of stack from the header that came with the archive. */
 #define DOCKPLAN_VERSION 107
 
 /* The version of the archive. Header and archive belong together exactly when this is DOCKPLAN_VERSION. */

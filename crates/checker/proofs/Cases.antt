@@ -17,6 +17,7 @@ use Rattle.checker.specs.Check.{check_of}
 use Rattle.checker.specs.Cases.{told, asked}
 
 pub verdicts_hold : map asked cases ≡ map (λ (x : Case). told (expected x)) cases
-unfolding run peak steps_to verdict_on_read verdict_on_save digit digits number is_line digit_of hex known second_digits header_of within_limits header_answer heading
-    card_at second_at second_before line_fault lines_fault part_fault parse line_texts ticket_text check_of
+unfolding run peak steps_to verdict_on_read verdict_on_save digit digits number is_line digit_of hex known second_digits header_of
+    within_limits header_answer heading card_at second_at second_before line_fault lines_fault part_fault parse line_texts ticket_text
+    check_of
 verdicts_hold = refl

@@ -19,6 +19,6 @@ unfolding hub_cards
 cards_hold = refl
 
 pub tight_hold : map (λ (x : Case). told (asked x)) tight_cases ≡ map expected tight_cases
-unfolding save_and_keep greedy_writing lazy_prefetching digit digits number is_line digit_of hex known second_digits header_of within_limits header_answer heading
-    card_at second_at second_before line_fault lines_fault part_fault parse line_texts ticket_text plan_of hub_cards
+unfolding save_and_keep greedy_writing lazy_prefetching digit digits number is_line digit_of hex known second_digits header_of within_limits
+    header_answer heading card_at second_at second_before line_fault lines_fault part_fault parse line_texts ticket_text plan_of hub_cards
 tight_hold = refl

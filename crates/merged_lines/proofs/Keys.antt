@@ -45,7 +45,8 @@ key_order :
     × (second_at edition2 a i ≡ second_at edition2 b j → key_at a (11 * n) (11 * i) ≡ key_at b (11 * m) (11 * j))
 key_order a b n m i j its_lines others k l =
     let order =
-    keys_order a b (11 * i + 2) (11 * j + 2) 8 (second_digits_at a (11 * i) (its_line a n i its_lines k)) (second_digits_at b (11 * j) (its_line b m j others l)) in
+    keys_order a b (11 * i + 2) (11 * j + 2) 8 (second_digits_at a (11 * i) (its_line a n i its_lines k))
+    (second_digits_at b (11 * j) (its_line b m j others l)) in
     let x = second_is a n i its_lines k in
     let y = second_is b m j others l in
     let here = key_here a (11 * n) (11 * i) (omega arith) in

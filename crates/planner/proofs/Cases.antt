@@ -15,6 +15,7 @@ use Rattle.planner.specs.Plan.{plan_of, buffer_after}
 use Rattle.planner.specs.Cases.{asked}
 
 pub plans_hold : map asked cases ≡ map expected cases
-unfolding save_and_keep greedy_writing lazy_prefetching digit digits number is_line digit_of hex known second_digits header_of within_limits header_answer heading
-    card_at second_at second_before line_fault lines_fault part_fault parse zeros line_texts ticket_text plan_of buffer_after
+unfolding save_and_keep greedy_writing lazy_prefetching digit digits number is_line digit_of hex known second_digits header_of within_limits
+    header_answer heading card_at second_at second_before line_fault lines_fault part_fault parse zeros line_texts ticket_text plan_of
+    buffer_after
 plans_hold = refl

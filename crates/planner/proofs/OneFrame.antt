@@ -61,6 +61,6 @@ module _
       }
 
 pub examples_hold : map asked examples ≡ map expected examples
-unfolding save_and_keep greedy_writing lazy_prefetching digit digits number is_line digit_of hex known second_digits header_of within_limits header_answer heading
-    card_at second_at second_before line_fault lines_fault part_fault parse line_texts ticket_text plan_of
+unfolding save_and_keep greedy_writing lazy_prefetching digit digits number is_line digit_of hex known second_digits header_of within_limits
+    header_answer heading card_at second_at second_before line_fault lines_fault part_fault parse line_texts ticket_text plan_of
 examples_hold = refl

@@ -14,6 +14,7 @@ use Rattle.print_lines.specs.Lines.{refusal_text}
 use Rattle.printing.specs.Cases.{Case, cases}
 
 pub texts_hold : map (λ (c : Case). c.text) cases ≡ map (λ (c : Case). c.expected) cases
-unfolding cases text_of refusal_text plan_text frame_lines lazy_prefetching save_and_keep greedy_writing digit digits number
-    is_line digit_of hex known second_digits header_of within_limits header_answer heading card_at second_at second_before line_fault lines_fault part_fault parse
+unfolding cases text_of refusal_text plan_text frame_lines lazy_prefetching save_and_keep greedy_writing digit digits number is_line
+    digit_of hex known second_digits header_of within_limits header_answer heading card_at second_at second_before line_fault lines_fault
+    part_fault parse
 texts_hold = refl

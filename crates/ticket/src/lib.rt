@@ -9,7 +9,8 @@ ghost use Rattle.header.specs.Limits.{max_frames};
 ghost use Rattle.ticket.specs.Grounds.{ReadAs};
 ghost use Rattle.ticket.specs.Part.{address};
 ghost use Rattle.ticket.specs.Seconds.{seconds_of, second_of};
-ghost use Rattle.ticket.specs.Ticket.{parse, answer_in, read_into, ticket_of, numbers_in, refusal_of, line_refusal_of, line_start, line_of, line_place, counts_of};
+ghost use Rattle.ticket.specs.Ticket.{parse, answer_in, read_into, ticket_of, numbers_in, refusal_of, counts_of};
+ghost use Rattle.ticket.specs.Ticket.{line_refusal_of, line_start, line_of, line_place};
 
 use counting::Position;
 use header::{Answer, Header, editions, limits};

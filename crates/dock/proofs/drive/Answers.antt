@@ -3,7 +3,19 @@ use Rattle.dock.proofs.Driving.{memory_short, driven}
 use Rattle.dock.proofs.drive.Goals as goal
 
 pub returns-then-memory-frames : goal.returns-then-memory-frames
-returns-then-memory-frames c = let whole = memory_short c.args.dock _ _ c.if-memory-frames.true in record { answer = whole.0; memory = whole.1.0; follows = whole.1.1 }
+returns-then-memory-frames c =
+    let clauses = memory_short c.args.dock _ _ c.if-memory-frames.true in
+    record {
+      answer = clauses.0;
+      memory = clauses.1.0;
+      follows = clauses.1.1;
+    }
 
 pub returns : goal.returns
-returns c = let whole = driven c.args.dock _ _ c.if-memory-frames.false _ _ c.advance.ensures in record { answer = whole.0; memory = whole.1.0; follows = whole.1.1 }
+returns c =
+    let clauses = driven c.args.dock _ _ c.if-memory-frames.false _ _ c.advance.ensures in
+    record {
+      answer = clauses.0;
+      memory = clauses.1.0;
+      follows = clauses.1.1;
+    }

@@ -15,5 +15,7 @@ loop-i-preserved c =
       length-set c.loop-i.cards c.loop-i.i _ ∙ c.loop-i.invariant.3,
       λ chosen before known seen room p.
           let so_far = c.loop-i.invariant.4 chosen before known seen room p in
-          rw c.turned.ensures (placing_next chosen _ before known seen room c.loop-i.i c.loop-i.words c.loop-i.cards so_far inside c.index-camera.result c.index-camera.ensures),
+          let l = c.loop-i in
+          let camera = c.index-camera in
+          rw c.turned.ensures (placing_next chosen _ before known seen room l.i l.words l.cards so_far inside camera.result camera.ensures),
     )

@@ -33,7 +33,8 @@ key_at-x-requires-then-x-y c =
 
 pub loop-place-preserved-then-x-y : goal.loop-place-preserved-then-x-y
 loop-place-preserved-then-x-y c =
-    took_first _ _ _ _ c.requires.0 c.requires.1 _ _ _ _ _ _ _ _ c.loop-place.invariant (omega arith) (omega arith) _ _ c.put_line.ensures c.key_at-x-then-x-y.ensures
+    took_first _ _ _ _ c.requires.0 c.requires.1 _ _ _ _ _ _ _ _ c.loop-place.invariant (omega arith) (omega arith) _ _
+    c.put_line.ensures c.key_at-x-then-x-y.ensures
 
 pub put_line-requires-else-x-y : goal.put_line-requires-else-x-y
 put_line-requires-else-x-y c =
@@ -51,7 +52,8 @@ key_at-y-requires-else-x-y c =
 
 pub loop-place-preserved : goal.loop-place-preserved
 loop-place-preserved c =
-    took_second _ _ _ _ c.requires.0 c.requires.1 _ _ _ _ _ _ _ _ c.loop-place.invariant (omega arith) (omega arith) _ _ c.put_line-else-x-y.ensures c.key_at-y-else-x-y.ensures
+    took_second _ _ _ _ c.requires.0 c.requires.1 _ _ _ _ _ _ _ _ c.loop-place.invariant (omega arith) (omega arith) _ _
+    c.put_line-else-x-y.ensures c.key_at-y-else-x-y.ensures
 
 pub returns : goal.returns
 returns c =

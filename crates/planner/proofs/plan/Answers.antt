@@ -4,7 +4,21 @@ use Rattle.planner.proofs.Demand.{contract}
 use Rattle.planner.proofs.plan.Goals as goal
 
 pub returns-in-Refused : goal.returns-in-Refused
-returns-in-Refused c = let whole = contract _ _ _ _ (rw (c.read-answer.ensures.reads.refusal _ c.in-Refused.is) (ticket_refused _ _)) in record { answer = whole.0; buffer = whole.1.0; numbers = whole.1.1.0; demand = whole.1.1.1 }
+returns-in-Refused c =
+    let clauses = contract _ _ _ _ (rw (c.read-answer.ensures.reads.refusal _ c.in-Refused.is) (ticket_refused _ _)) in
+    record {
+      answer = clauses.0;
+      buffer = clauses.1.0;
+      numbers = clauses.1.1.0;
+      demand = clauses.1.1.1;
+    }
 
 pub returns-in-Accepted : goal.returns-in-Accepted
-returns-in-Accepted c = let whole = contract _ _ _ _ (rw (c.read-answer.ensures.reads.list _ c.in-Accepted.is) c.plan_list.ensures) in record { answer = whole.0; buffer = whole.1.0; numbers = whole.1.1.0; demand = whole.1.1.1 }
+returns-in-Accepted c =
+    let clauses = contract _ _ _ _ (rw (c.read-answer.ensures.reads.list _ c.in-Accepted.is) c.plan_list.ensures) in
+    record {
+      answer = clauses.0;
+      buffer = clauses.1.0;
+      numbers = clauses.1.1.0;
+      demand = clauses.1.1.1;
+    }

@@ -5,7 +5,19 @@ use Rattle.printing.proofs.print.Goals as goal
 
 pub returns-in-Refused : goal.returns-in-Refused
 unfolding text_of
-returns-in-Refused c = let whole = contract _ _ _ _ (rw (c.read-answer.ensures.reads.refusal _ c.in-Refused.is) c.refusal.ensures) in record { answer = whole.0; buffer = whole.1.0; front = whole.1.1 }
+returns-in-Refused c =
+    let clauses = contract _ _ _ _ (rw (c.read-answer.ensures.reads.refusal _ c.in-Refused.is) c.refusal.ensures) in
+    record {
+      answer = clauses.0;
+      buffer = clauses.1.0;
+      front = clauses.1.1;
+    }
 
 pub returns-in-Accepted : goal.returns-in-Accepted
-returns-in-Accepted c = let whole = contract _ _ _ _ (rw (c.read-answer.ensures.reads.list _ c.in-Accepted.is) c.print_list.ensures) in record { answer = whole.0; buffer = whole.1.0; front = whole.1.1 }
+returns-in-Accepted c =
+    let clauses = contract _ _ _ _ (rw (c.read-answer.ensures.reads.list _ c.in-Accepted.is) c.print_list.ensures) in
+    record {
+      answer = clauses.0;
+      buffer = clauses.1.0;
+      front = clauses.1.1;
+    }

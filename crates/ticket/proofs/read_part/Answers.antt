@@ -16,8 +16,10 @@ read_lines-number-requires c =
 
 pub returns-then-number-ne0 : goal.returns-then-number-ne0
 returns-then-number-ne0 c =
-    (part_refused _ c.args.h c.requires.0 c.read_lines-number.ensures.0 (λ e. omega arith), part_into_is _ c.args.h c.requires.0 _ c.read_lines-number.ensures.1)
+    let read = c.read_lines-number.ensures in
+    (part_refused _ c.args.h c.requires.0 read.0 (λ e. omega arith), part_into_is _ c.args.h c.requires.0 _ read.1)
 
 pub returns : goal.returns
 returns c =
-    (part_accepted _ c.args.h c.requires.0 c.read_lines-number.ensures.0 (omega arith), part_into_is _ c.args.h c.requires.0 _ c.read_lines-number.ensures.1)
+    let read = c.read_lines-number.ensures in
+    (part_accepted _ c.args.h c.requires.0 read.0 (omega arith), part_into_is _ c.args.h c.requires.0 _ read.1)

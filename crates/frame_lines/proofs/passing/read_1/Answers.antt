@@ -43,9 +43,9 @@ loop-i-preserved c =
     let q : card_digits ≡ line_digits c.args.edition = omega (arith, c.requires.4) in
     let is : v.result ≡ card_at c.args.edition c.args.s.now l.i = is_card _ _ c.args.cards _ l.at v.result l.invariant.1 v.ensures in
     let none = nothing_asked c.args.edition c.args.s.now c.requires.4 (l.at + card_digits) l.i in
-    let inside = (let it : c.loop-i.at + card_digits < length c.args.s.now = let l = c.loop-i in
     let long = length c.args.s.now in
-    omega (arith, c.requires.4, line_fits c.args.edition l.i l.at l.invariant.1 c.args.lines long c.loop-i-test.true c.requires.3) in it) in (
+    let inside : l.at + card_digits < long =
+    omega (arith, c.requires.4, line_fits c.args.edition l.i l.at l.invariant.1 c.args.lines long c.loop-i-test.true c.requires.3) in (
       omega arith,
       line_next c.args.edition l.i l.at l.invariant.1 q,
       passes _ _ _ _ l.at v.result l.invariant.1 v.ensures (omega arith) (omega arith) none.0 none.1 q inside (omega arith) l.invariant.2,

@@ -7,11 +7,19 @@ returns-then-save c =
     let args = c.args in
     let pre = c.requires in
     let rule = compared_save args.save args.plan.now args.i c.if-save.true in
-    let whole = rule_counted args.save args.m args.plan.now args.i pre.0 _ rule (c.count_up_to.ensures.count, c.count_up_to.ensures.looked) in record { count = whole.0; looked = whole.1 }
+    let clauses = rule_counted args.save args.m args.plan.now args.i pre.0 _ rule (c.count_up_to.ensures.count, c.count_up_to.ensures.looked) in
+    record {
+      count = clauses.0;
+      looked = clauses.1;
+    }
 
 pub returns : goal.returns
 returns c =
     let args = c.args in
     let pre = c.requires in
     let rule = compared_read args.save args.plan.now args.i c.if-save.false in
-    let whole = rule_counted args.save args.m args.plan.now args.i pre.0 _ rule (c.count_up_to-2.ensures.count, c.count_up_to-2.ensures.looked) in record { count = whole.0; looked = whole.1 }
+    let clauses = rule_counted args.save args.m args.plan.now args.i pre.0 _ rule (c.count_up_to-2.ensures.count, c.count_up_to-2.ensures.looked) in
+    record {
+      count = clauses.0;
+      looked = clauses.1;
+    }

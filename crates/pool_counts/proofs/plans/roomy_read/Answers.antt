@@ -7,7 +7,10 @@ pub returns-then-m-found : goal.returns-then-m-found
 returns-then-m-found c =
     let inv = c.loop-i.invariant in
     let inside = c.loop-i-test.true in
-    record { roomy = roomy_ends inv.roomy inside (omega (arith, c.backlog-found.ensures.count, c.if-m-found.true)); peak = inv.so_far }
+    record {
+      roomy = roomy_ends inv.roomy inside (omega (arith, c.backlog-found.ensures.count, c.if-m-found.true));
+      peak = inv.so_far;
+    }
 
 pub loop-i-preserved-then-ceiling-c : goal.loop-i-preserved-then-ceiling-c
 loop-i-preserved-then-ceiling-c c =
@@ -25,4 +28,9 @@ loop-i-preserved c =
     read_covered inv inside c.place-c.ensures.0 c.if-ceiling-c.false
 
 pub returns : goal.returns
-returns c = let whole = read_all c.loop-i.invariant c.loop-i-test.false in record { roomy = whole.0; peak = whole.1 }
+returns c =
+    let clauses = read_all c.loop-i.invariant c.loop-i-test.false in
+    record {
+      roomy = clauses.0;
+      peak = clauses.1;
+    }

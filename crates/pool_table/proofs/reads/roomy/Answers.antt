@@ -18,7 +18,10 @@ returns-then-m-needed c =
     let ahead = c.if-ceiling-c.true in
     let inv = c.loop-i.invariant in
     let inside = c.loop-i-test.true in
-    record { roomy = table_ends inv inside c.cycle_index-c.ensures table ahead c.if-m-needed.true; peak = inv.so_far }
+    record {
+      roomy = table_ends inv inside c.cycle_index-c.ensures table ahead c.if-m-needed.true;
+      peak = inv.so_far;
+    }
 
 pub loop-i-preserved-then-ceiling-c : goal.loop-i-preserved-then-ceiling-c
 loop-i-preserved-then-ceiling-c c =
@@ -35,4 +38,9 @@ loop-i-preserved c =
     read_covered c.loop-i.invariant inside c.cycle_index-c.ensures c.if-ceiling-c.false
 
 pub returns : goal.returns
-returns c = let whole = read_all c.loop-i.invariant c.loop-i-test.false in record { roomy = whole.0; peak = whole.1 }
+returns c =
+    let clauses = read_all c.loop-i.invariant c.loop-i-test.false in
+    record {
+      roomy = clauses.0;
+      peak = clauses.1;
+    }

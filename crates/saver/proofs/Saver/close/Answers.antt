@@ -7,10 +7,22 @@ use Rattle.saver.proofs.Saving.{is_closed}
 use Rattle.saver.proofs.Saver.close.Goals as goal
 
 pub returns-then-self-lt1 : goal.returns-then-self-lt1
-returns-then-self-lt1 c = let whole = is_closed c.requires (c.refused.ensures ∙ sym (close_empty _ (omega arith))) in record { answer = whole.0; given = whole.1.0; greedy = whole.1.1 }
+returns-then-self-lt1 c =
+    let clauses = is_closed c.requires (c.refused.ensures ∙ sym (close_empty _ (omega arith))) in
+    record {
+      answer = clauses.0;
+      given = clauses.1.0;
+      greedy = clauses.1.1;
+    }
 
 pub one_cycle-requires : goal.one_cycle-requires
 one_cycle-requires c = formed_closing _ (given_formed c.requires)
 
 pub returns : goal.returns
-returns c = let whole = is_closed c.requires (c.one_cycle.ensures ∙ sym (close_cycles _ (omega arith))) in record { answer = whole.0; given = whole.1.0; greedy = whole.1.1 }
+returns c =
+    let clauses = is_closed c.requires (c.one_cycle.ensures ∙ sym (close_cycles _ (omega arith))) in
+    record {
+      answer = clauses.0;
+      given = clauses.1.0;
+      greedy = clauses.1.1;
+    }

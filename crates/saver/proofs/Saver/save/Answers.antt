@@ -8,13 +8,32 @@ use Rattle.saver.proofs.Saving.{is_saved, room_after}
 use Rattle.saver.proofs.Saver.save.Goals as goal
 
 pub returns-then-self : goal.returns-then-self
-returns-then-self c = let whole = is_saved _ c.requires (c.refused.ensures ∙ sym (save_closed _ _ c.if-self.true)) in record { answer = whole.0; given = whole.1.0; greedy = whole.1.1 }
+returns-then-self c =
+    let clauses = is_saved _ c.requires (c.refused.ensures ∙ sym (save_closed _ _ c.if-self.true)) in
+    record {
+      answer = clauses.0;
+      given = clauses.1.0;
+      greedy = clauses.1.1;
+    }
 
 pub returns-then-self-card : goal.returns-then-self-card
-returns-then-self-card c = let whole = is_saved _ c.requires (c.refused-then-self-card.ensures ∙ sym (save_no_card _ _ c.if-self.false (omega arith))) in record { answer = whole.0; given = whole.1.0; greedy = whole.1.1 }
+returns-then-self-card c =
+    let clauses = is_saved _ c.requires (c.refused-then-self-card.ensures ∙ sym (save_no_card _ _ c.if-self.false (omega arith))) in
+    record {
+      answer = clauses.0;
+      given = clauses.1.0;
+      greedy = clauses.1.1;
+    }
 
 pub returns-then-self-ge-MAX_FRAMES : goal.returns-then-self-ge-MAX_FRAMES
-returns-then-self-ge-MAX_FRAMES c = let whole = is_saved _ c.requires (c.refused-then-self-ge-MAX_FRAMES.ensures ∙ sym (save_all_taken _ _ c.if-self.false (omega arith) (omega arith))) in record { answer = whole.0; given = whole.1.0; greedy = whole.1.1 }
+returns-then-self-ge-MAX_FRAMES c =
+    let refused = c.refused-then-self-ge-MAX_FRAMES.ensures in
+    let clauses = is_saved _ c.requires (refused ∙ sym (save_all_taken _ _ c.if-self.false (omega arith) (omega arith))) in
+    record {
+      answer = clauses.0;
+      given = clauses.1.0;
+      greedy = clauses.1.1;
+    }
 
 pub enter-requires : goal.enter-requires
 enter-requires c =
@@ -22,8 +41,14 @@ enter-requires c =
     record { place = omega (arith, (given_formed given).small_pool); number = omega arith }
 
 pub returns-then-self-2 : goal.returns-then-self-2
-returns-then-self-2 c = let whole = is_saved _ c.requires
-    (c.quiet.ensures ∙ ap quiet c.enter.ensures ∙ sym (save_enters _ _ c.if-self.false (omega arith) (omega arith) (omega arith))) in record { answer = whole.0; given = whole.1.0; greedy = whole.1.1 }
+returns-then-self-2 c =
+    let clauses = is_saved _ c.requires
+    (c.quiet.ensures ∙ ap quiet c.enter.ensures ∙ sym (save_enters _ _ c.if-self.false (omega arith) (omega arith) (omega arith))) in
+    record {
+      answer = clauses.0;
+      given = clauses.1.0;
+      greedy = clauses.1.1;
+    }
 
 pub one_cycle-requires : goal.one_cycle-requires
 one_cycle-requires c =
@@ -36,7 +61,13 @@ then_enter-requires c =
     room_after given (omega arith) (omega arith) c.one_cycle.ensures
 
 pub returns : goal.returns
-returns c = let whole = is_saved _ c.requires
+returns c =
+    let clauses = is_saved _ c.requires
     (c.then_enter.ensures
     ∙ ap (λ r. then_enters r c.args.card) c.one_cycle.ensures
-    ∙ sym (save_cycles _ _ c.if-self.false (omega arith) (omega arith) (omega arith))) in record { answer = whole.0; given = whole.1.0; greedy = whole.1.1 }
+    ∙ sym (save_cycles _ _ c.if-self.false (omega arith) (omega arith) (omega arith))) in
+    record {
+      answer = clauses.0;
+      given = clauses.1.0;
+      greedy = clauses.1.1;
+    }
