@@ -4,7 +4,8 @@ ghost use Rattle.std.specs.Prelude.{◌≤◌};
 
 use crate::hubs::{PATTERNS, PLACES};
 use crate::{hubs, long_lists, output, tables};
-use planner::Answer;
+use counting::Cycle;
+use refusals::Refusal;
 use std::io;
 
 // The bytes of a ticket of 64 frames.
@@ -21,80 +22,46 @@ fn header_of(mode: u8, pool: usize, frames: usize) -> [u8; 15] {
     header
 }
 
-// Byte i of a ticket with this header and these cards.
-fn byte_of(header: &[u8], cards: &[u8], i: usize) -> u8 {
-    if i < header.len() {
-        return header[i];
-    }
-    let past = i - header.len();
-    long_lists::line_byte(past % 3, tables::byte_at(cards, past / 3) as usize)
-}
-
-// Fills a text with a ticket of these cards.
-fn put_ticket(text: &mut [u8], mode: u8, pool: usize, cards: &[u8]) {
+// A ticket of these cards, at the front; lines of card 0 follow.
+fn ticket_of(mode: u8, pool: usize, cards: &[u8]) -> [u8; LONGEST] {
     let header = header_of(mode, pool, cards.len());
-    let n = text.len();
-    let mut i: usize = 0;
-    while i < n {
-        text[i] = byte_of(&header, cards, i);
-        i += 1;
-    }
+    long_lists::text_of(&header, |i| {
+        let card = cards.get(i / 3).map_or(0, |card| usize::from(*card));
+        long_lists::line(card)[i % 3]
+    })
 }
 
 // The bytes of a ticket of up to 64 cards.
 fn bytes_of(cards: &[u8]) -> usize
     ensures { result ≤ 207 }
 {
-    15 + 3 * hubs::within(PLACES, cards.len())
-}
-
-// The largest of some counts.
-fn largest(count: [u16; 32]) -> u16 {
-    let n: usize = 32;
-    let mut most: u16 = 0;
-    let mut i: usize = 0;
-    while i < n {
-        let frames = count[i];
-        i += 1;
-        if most < frames {
-            most = frames;
-        }
-    }
-    most
+    15 + 3 * cards.len().min(PLACES)
 }
 
 // The load of the fullest card.
 fn fullest(cards: &[u8]) -> u16 {
-    let mut text = [0u8; LONGEST];
-    let start: usize = 0;
-    put_ticket(&mut text, 0, 1, cards);
-    let bytes = bytes_of(cards);
-    largest(ticket::counts(&text[start..bytes]))
+    let t = ticket_of(0, 1, cards);
+    let counts = ticket::counts(&t[..bytes_of(cards)]);
+    counts.iter().copied().max().unwrap_or(0)
 }
 
-// T, or the number of a refusal.
-fn cycles(rt: &impl Print, a: Answer) -> io::Result<()> {
+// T, or the number of a refusal. Not as in plans.rt: without the word before T, and in other columns.
+fn cycles(rt: &impl Print, a: Result<Cycle, Refusal>) -> io::Result<()> {
     match a {
-        Answer::Planned(t) => output::number(rt, t.0, 6),
-        Answer::Refused(k) => {
-            output::word(rt, output::NOT_PLANNED)?;
-            output::small(rt, k, 3)
-        }
+        Ok(t) => print!(rt; "{:6}", t.0),
+        Err(refusal) => print!(rt; "refused{:3}", u8::from(refusal)),
     }
 }
 
 fn planned_as(rt: &impl Print, mode: u8, pool: usize, cards: &[u8]) -> io::Result<()> {
-    let mut text = [0u8; LONGEST];
     let mut plan = [0u16; PLACES];
-    let start: usize = 0;
-    put_ticket(&mut text, mode, pool, cards);
-    let bytes = bytes_of(cards);
-    cycles(rt, planner::plan(&text[start..bytes], &mut plan))
+    let t = ticket_of(mode, pool, cards);
+    cycles(rt, planner::plan(&t[..bytes_of(cards)], &mut plan))
 }
 
 // A read and a save.
 fn both(rt: &impl Print, pool: usize, cards: &[u8]) -> io::Result<()> {
-    output::pad(rt, 0, 3)?;
+    rt.print("   ")?;
     planned_as(rt, 0, pool, cards)?;
     planned_as(rt, 1, pool, cards)
 }
@@ -103,18 +70,19 @@ fn both(rt: &impl Print, pool: usize, cards: &[u8]) -> io::Result<()> {
 pub(crate) fn planned(rt: &impl Print, patterns: &[u8], list: &[u8]) -> io::Result<()> {
     let mut chosen = [0u8; PATTERNS];
     let mut cameras = [0u8; PLACES];
-    let mut buffer = [0u8; PLACES];
-    let start: usize = 0;
-    let s = hubs::within(PATTERNS, patterns.len());
-    let n = hubs::within(PLACES, list.len());
+    let mut cards = [0u8; PLACES];
     output::left(rt, patterns, 10)?;
     output::left(rt, list, 48)?;
-    hubs::read_numbers(patterns, &mut chosen);
-    hubs::read_numbers(list, &mut cameras);
-    let lent = &mut buffer[start..n];
-    hubs::answer(rt, hub::gather(&chosen[start..s], &cameras[start..n], lent))?;
-    output::number(rt, fullest(lent), 9)?;
-    output::size(rt, (n + 7 * s) / 8, 7)?;
-    both(rt, 7 * s, lent)?;
-    both(rt, 7 * s + 1, lent)
+    let chosen = tables::read_numbers(patterns, &mut chosen, tables::card);
+    let cameras = tables::read_numbers(list, &mut cameras, tables::card);
+    let lent = &mut cards[..cameras.len()];
+    let (refusal, frames) = hubs::own(chosen, cameras, lent);
+    let most = 7 * chosen.len();
+    print!(rt;
+        "{refusal:9}{frames:8}{:9}{:7}",
+        fullest(lent),
+        (cameras.len() + most) / 8
+    )?;
+    both(rt, most, lent)?;
+    both(rt, most + 1, lent)
 }

@@ -1,10 +1,8 @@
 // The field hub: the cards of the frames, by the camera of each, and the lent buffer afterwards.
 // Patterns and cameras are written with a digit each; L is 255.
-ghost use Rattle.std.specs.Prelude.{◌≤◌};
-
 use crate::{output, tables};
 use firmware::hubs::dockplan_hub;
-use hub::Answer;
+use refusals::Refusal;
 use std::io;
 
 // The most patterns, and the most frames and places, that are shown.
@@ -12,82 +10,53 @@ pub(crate) const PATTERNS: usize = 8;
 
 pub(crate) const PLACES: usize = 64;
 
-// The numbers that a text stands for.
-pub(crate) fn read_numbers(text: &[u8], numbers: &mut [u8]) {
-    let n = text.len();
-    let mut i: usize = 0;
-    while i < n {
-        let at = i;
-        i += 1;
-        if at < numbers.len() {
-            numbers[at] = (tables::number(text[at]) % 256) as u8;
-        }
+// The refusal, 0 for none, and how many cards were given, 0 beside a refusal.
+pub(crate) fn numbers(a: Result<u16, Refusal>) -> (u8, u16) {
+    match a {
+        Ok(frames) => (0, frames),
+        Err(refusal) => (u8::from(refusal), 0),
     }
+}
+
+// The two ways to call the hub.
+pub(crate) fn own(chosen: &[u8], cameras: &[u8], lent: &mut [u8]) -> (u8, u16) {
+    numbers(hub::gather(chosen, cameras, lent))
+}
+
+pub(crate) fn library(chosen: &[u8], cameras: &[u8], lent: &mut [u8]) -> (u8, u16) {
+    let a = dockplan_hub(chosen, cameras, lent);
+    (a.refusal, a.frames)
 }
 
 // The buffer: a card by its digit, and what else stands in it, a letter, as it is.
 fn show_buffer(rt: &impl Print, buffer: &[u8]) -> io::Result<()> {
-    let n = buffer.len();
-    let mut i: usize = 0;
-    while i < n {
-        let b = buffer[i];
-        i += 1;
-        if b < 10 {
-            output::byte(rt, b'0' + b)?;
-        } else {
-            output::byte(rt, b)?;
-        }
+    for b in buffer {
+        let shown = if *b < 10 { b'0' + *b } else { *b };
+        rt.write_all(&[shown])?;
     }
     Ok(())
 }
 
-fn numbers(rt: &impl Print, refusal: u8, frames: u16) -> io::Result<()> {
-    output::small(rt, refusal, 9)?;
-    output::number(rt, frames, 8)
-}
-
-// The refusal, 0 for none, and how many cards were given, 0 beside a refusal.
-pub(crate) fn answer(rt: &impl Print, a: Answer) -> io::Result<()> {
-    match a {
-        Answer::Gathered(frames) => numbers(rt, 0, frames),
-        Answer::Refused(number) => numbers(rt, number, 0),
-    }
-}
-
-// As many as there are, up to the most that are shown.
-pub(crate) fn within(most: usize, n: usize) -> usize
-    ensures { result ≤ most }
-{
-    if n <= most { n } else { most }
-}
-
 // The patterns, and with them the cameras and a dot for each place that is lent, up to 64. The buffer is lent with letters.
-pub(crate) fn gathered(
+pub(crate) fn gathered<F: Fn(&[u8], &[u8], &mut [u8]) -> (u8, u16)>(
     rt: &impl Print,
     patterns: &[u8],
     more: &[u8],
-    library: bool,
-) -> io::Result<()> {
+    call: F,
+) -> io::Result<()>
+    requires { F.IsAlwaysCallable call }
+{
     let mut chosen = [0u8; PATTERNS];
     let mut cameras = [0u8; PLACES];
     let mut buffer = *b"abcdefghijklmnopqrstuvwxyzabcdefghijklmnopqrstuvwxyzabcdefghijkl";
-    let start: usize = 0;
-    let list = tables::word(more);
-    let s = within(PATTERNS, patterns.len());
-    let n = within(PLACES, list.len());
-    let places = within(PLACES, tables::after_word(more).len());
+    let (list, dots) = tables::split_word(more);
+    let places = dots.len().min(PLACES);
     output::left(rt, patterns, 10)?;
     output::left(rt, list, 35)?;
-    output::size(rt, places, 6)?;
-    read_numbers(patterns, &mut chosen);
-    read_numbers(list, &mut cameras);
-    let lent = &mut buffer[start..places];
-    if library {
-        let a = dockplan_hub(&chosen[start..s], &cameras[start..n], lent);
-        numbers(rt, a.refusal, a.frames)?;
-    } else {
-        answer(rt, hub::gather(&chosen[start..s], &cameras[start..n], lent))?;
-    }
-    output::pad(rt, 0, 2)?;
+    let chosen = tables::read_numbers(patterns, &mut chosen, tables::card);
+    let cameras = tables::read_numbers(list, &mut cameras, tables::card);
+    let lent = &mut buffer[..places];
+    let (refusal, frames) = call(chosen, cameras, lent);
+    print!(rt; "{places:6}{refusal:9}{frames:8}  ")?;
     show_buffer(rt, lent)
 }

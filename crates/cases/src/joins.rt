@@ -1,41 +1,45 @@
 // Joined tickets: the answer, and the lent buffer afterwards.
 use crate::{output, tables};
 use firmware::joins::dockplan_join;
-use join::Answer;
+use refusals::Refusal;
 use std::io;
 
-fn numbers(rt: &impl Print, refusal: u8, bytes: usize) -> io::Result<()> {
-    output::small(rt, refusal, 9)?;
-    output::size(rt, bytes, 7)
-}
-
 // The refusal, 0 for none, and the bytes of the joined ticket, 0 beside a refusal.
-pub(crate) fn answer(rt: &impl Print, a: Answer) -> io::Result<()> {
+pub(crate) fn numbers(a: Result<usize, Refusal>) -> (u8, usize) {
     match a {
-        Answer::Joined(bytes) => numbers(rt, 0, bytes),
-        Answer::Refused(number) => numbers(rt, number, 0),
+        Ok(bytes) => (0, bytes),
+        Err(refusal) => (u8::from(refusal), 0),
     }
 }
 
+// The two ways to call the join.
+pub(crate) fn own(first: &[u8], second: &[u8], lent: &mut [u8]) -> (u8, usize) {
+    numbers(join::join(first, second, lent))
+}
+
+pub(crate) fn library(first: &[u8], second: &[u8], lent: &mut [u8]) -> (u8, usize) {
+    let a = dockplan_join(first, second, lent);
+    (a.refusal, a.bytes)
+}
+
 // The first ticket, and with it the second and a dot for each place that is lent, up to 64.
-pub(crate) fn joined(rt: &impl Print, first: &[u8], more: &[u8], library: bool) -> io::Result<()> {
+pub(crate) fn joined<F: Fn(&[u8], &[u8], &mut [u8]) -> (u8, usize)>(
+    rt: &impl Print,
+    first: &[u8],
+    more: &[u8],
+    call: F,
+) -> io::Result<()>
+    requires { F.IsAlwaysCallable call }
+{
     let mut buffer = [b'.'; 64];
-    let start: usize = 0;
-    let second = tables::word(more);
-    let places = tables::after_word(more).len();
-    if places <= 64 {
+    let (second, dots) = tables::split_word(more);
+    let places = dots.len();
+    if let Some(lent) = buffer.get_mut(..places) {
         output::left(rt, first, 37)?;
-        output::byte(rt, b' ')?;
+        rt.print(" ")?;
         output::left(rt, second, 37)?;
-        output::size(rt, places, 7)?;
-        let lent = &mut buffer[start..places];
-        if library {
-            let a = dockplan_join(first, second, lent);
-            numbers(rt, a.refusal, a.bytes)?;
-        } else {
-            answer(rt, join::join(first, second, lent))?;
-        }
-        output::pad(rt, 0, 2)?;
+        let (refusal, bytes) = call(first, second, lent);
+        print!(rt; "{places:7}{refusal:9}{bytes:7}  ")?;
         output::left(rt, lent, 0)?;
     }
     Ok(())

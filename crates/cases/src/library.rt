@@ -1,45 +1,47 @@
 // The exported calls of the firmware library: each call's whole answer, in numbers.
-use crate::{checks, output};
+use crate::{output, tables};
 use counting::Position;
 use firmware::checks::{dockplan_check, dockplan_run_plan};
 use firmware::plans::{dockplan_plan, dockplan_print};
 use firmware::tickets::{dockplan_counts, dockplan_line, dockplan_line_refusal, dockplan_parse};
 use std::io;
 
-// The header; the line at position 1 with the number beside it; the counts of cards 0 and 1.
-fn reading(rt: &impl Print, t: &[u8]) -> io::Result<()> {
+// The header.
+fn header(rt: &impl Print, t: &[u8]) -> io::Result<()> {
     let a = dockplan_parse(t);
-    output::small(rt, a.refusal, 4)?;
-    output::small(rt, a.edition, 3)?;
-    output::small(rt, a.mode, 3)?;
-    output::small(rt, a.cards, 3)?;
-    output::number(rt, a.pool, 3)?;
-    output::number(rt, a.frames, 3)?;
-    let line = dockplan_line(t, Position(1));
-    output::size(rt, line.offset, 6)?;
-    output::size(rt, line.length, 3)?;
-    output::small(rt, dockplan_line_refusal(t, Position(1)), 3)?;
-    let counts = dockplan_counts(t);
-    let frames = counts.frames;
-    output::small(rt, counts.refusal, 6)?;
-    output::list(rt, &frames, 2, 3)
+    print!(rt; "{:4}{:3}{:3}{:3}", a.refusal, a.edition, a.mode, a.cards)?;
+    print!(rt; "{:3}{:3}", a.pool, a.frames)
 }
 
-fn judging(rt: &impl Print, t: &[u8], plan: &[u16]) -> io::Result<()> {
-    let checked = dockplan_check(t, plan);
-    output::small(rt, checked.refusal, 6)?;
-    output::small(rt, checked.verdict, 3)?;
-    output::number(rt, checked.position.0, 3)?;
-    output::number(rt, checked.cycles.0, 3)?;
-    output::number(rt, checked.peak, 3)?;
-    let ran = dockplan_run_plan(t, plan);
-    output::small(rt, ran.refusal, 6)?;
-    output::small(rt, ran.broken as u8, 4)?;
-    output::small(rt, ran.complete as u8, 4)?;
-    output::number(rt, ran.delivered, 3)?;
-    output::number(rt, ran.ended.0, 3)?;
-    output::number(rt, ran.needed.0, 3)?;
-    output::number(rt, ran.peak, 3)
+// The header; the line at position 1 with the number beside it; the counts of cards 0 and 1.
+fn reading(rt: &impl Print, t: &[u8]) -> io::Result<()> {
+    header(rt, t)?;
+    let line = dockplan_line(t, Position(1));
+    let refusal = dockplan_line_refusal(t, Position(1));
+    print!(rt; "{:6}{:3}{refusal:3}", line.offset, line.length)?;
+    let counts = dockplan_counts(t);
+    print!(rt; "{:6}", counts.refusal)?;
+    output::list(rt, &counts.frames, 2, 3)
+}
+
+fn checking(rt: &impl Print, t: &[u8], plan: &[u16]) -> io::Result<()> {
+    let a = dockplan_check(t, plan);
+    print!(rt; "{:6}{:3}{:3}", a.refusal, a.verdict, a.position.0)?;
+    print!(rt; "{:3}{:3}", a.cycles.0, a.peak)
+}
+
+fn running(rt: &impl Print, t: &[u8], plan: &[u16]) -> io::Result<()> {
+    let a = dockplan_run_plan(t, plan);
+    print!(rt;
+        "{:6}{:4}{:4}",
+        a.refusal,
+        u8::from(a.broken),
+        u8::from(a.complete)
+    )?;
+    print!(rt;
+        "{:3}{:3}{:3}{:3}",
+        a.delivered, a.ended.0, a.needed.0, a.peak
+    )
 }
 
 // dockplan_plan with three places, and how many bytes dockplan_print puts into 60.
@@ -47,21 +49,20 @@ fn planning(rt: &impl Print, t: &[u8]) -> io::Result<()> {
     let mut buffer = [9u16; 3];
     let mut text = [0u8; 60];
     let a = dockplan_plan(t, &mut buffer);
-    output::small(rt, a.refusal, 6)?;
-    output::number(rt, a.cycles.0, 3)?;
+    print!(rt; "{:6}{:3}", a.refusal, a.cycles.0)?;
     output::list(rt, &buffer, 3, 3)?;
-    output::size(rt, dockplan_print(t, &mut text), 6)
+    print!(rt; "{:6}", dockplan_print(t, &mut text))
 }
 
 // A ticket, and a plan of three cycles.
 pub(crate) fn called(rt: &impl Print, t: &[u8], text: &[u8]) -> io::Result<()> {
     let mut plan = [0u16; 3];
-    checks::read_plan(text, &mut plan);
-    let given: &[u16] = &plan;
+    tables::read_numbers(text, &mut plan, tables::number);
     output::ticket(rt, t)?;
     reading(rt, t)?;
     planning(rt, t)?;
-    output::pad(rt, 0, 3)?;
-    output::list(rt, given, 3, 3)?;
-    judging(rt, t, given)
+    rt.print("   ")?;
+    output::list(rt, &plan, 3, 3)?;
+    checking(rt, t, &plan)?;
+    running(rt, t, &plan)
 }

@@ -1,8 +1,6 @@
 // Long lists of cameras for the hub, which are made here.
-ghost use Rattle.std.specs.Prelude.{◌<◌};
-
 use crate::hubs::PATTERNS;
-use crate::{hubs, long_joins, output, tables};
+use crate::{hubs, long_lists, output, tables};
 use std::io;
 
 // The most frames and places.
@@ -10,39 +8,51 @@ const FRAMES: usize = 65535;
 
 const PLACES: usize = 4097;
 
-fn at_least_one(n: usize) -> usize
-    ensures { 0 < result }
-{
-    if n < 1 { 1 } else { n }
+// The cameras of a list's frames: in turns, in bursts of 100, or 0 but for the last frame, which is of the last camera, or of the number past that.
+#[derive(Clone, Copy)]
+enum Layout {
+    Turns,
+    Bursts,
+    EndsWithLast,
+    EndsPastLast,
 }
 
-// The camera of frame i of a list, with s cameras: by the first letter of the layout, in turns, in bursts of 100, or 0 but for the last frame, which
-// is of the last camera, or of the number past that.
-fn camera_of(layout: u8, s: usize, i: usize, last: bool) -> u8 {
-    let count = at_least_one(s);
+impl Layout {
+    // By the first letter of a word.
+    fn named(word: &[u8]) -> Layout {
+        match word.first() {
+            Some(b't') => Layout::Turns,
+            Some(b'b') => Layout::Bursts,
+            Some(b'e') => Layout::EndsWithLast,
+            _ => Layout::EndsPastLast,
+        }
+    }
+}
+
+// The camera of frame i of a list, with s cameras. `last` tells where the frame stands, which no range or closure says plainer.
+fn camera_of(layout: Layout, s: usize, i: usize, last: bool) -> u8 {
+    let count = s.max(1);
     let camera = match layout {
-        b't' => i % count,
-        b'b' => i / 100 % count,
-        b'e' => if last { count - 1 } else { 0 },
-        _ => if last { count } else { 0 },
+        Layout::Turns => i % count,
+        Layout::Bursts => i / 100 % count,
+        Layout::EndsWithLast => if last { count - 1 } else { 0 },
+        Layout::EndsPastLast => if last { count } else { 0 },
     };
+    // Cut off on purpose: `try_from` would be a Result that is never an Err.
     (camera % 256) as u8
 }
 
-fn put_cameras(cameras: &mut [u8], layout: u8, s: usize) {
+fn put_cameras(cameras: &mut [u8], layout: Layout, s: usize) {
     let n = cameras.len();
-    let mut i: usize = 0;
-    while i < n {
-        let at = i;
-        i += 1;
-        cameras[at] = camera_of(layout, s, at, i == n);
+    for (i, camera) in cameras.iter_mut().enumerate() {
+        *camera = camera_of(layout, s, i, i + 1 == n);
     }
 }
 
 // The answer, and the checksum of the lent buffer afterwards.
 fn call(rt: &impl Print, chosen: &[u8], cameras: &[u8], lent: &mut [u8]) -> io::Result<()> {
-    hubs::answer(rt, hub::gather(chosen, cameras, lent))?;
-    output::size(rt, long_joins::checksum(lent) as usize, 10)
+    let (refusal, frames) = hubs::own(chosen, cameras, lent);
+    print!(rt; "{refusal:9}{frames:8}{:10}", long_lists::checksum(lent))
 }
 
 // The patterns, and with them the layout, and after another space the frames and the places lent, a letter each.
@@ -50,18 +60,14 @@ pub(crate) fn gathered(rt: &impl Print, patterns: &[u8], more: &[u8]) -> io::Res
     let mut chosen = [0u8; PATTERNS];
     let mut cameras = [0u8; FRAMES];
     let mut buffer = [b'.'; PLACES];
-    let start: usize = 0;
-    let layout = tables::word(more);
-    let counts = tables::after_word(more);
-    let s = hubs::within(PATTERNS, patterns.len());
-    let n = tables::number(tables::byte_at(counts, 0)) as usize;
-    let places = hubs::within(PLACES, tables::number(tables::byte_at(counts, 1)) as usize);
+    let (layout, counts) = tables::split_word(more);
+    let n = usize::from(tables::number_at(counts, 0));
+    let places = usize::from(tables::number_at(counts, 1)).min(PLACES);
     output::left(rt, patterns, 10)?;
     output::left(rt, layout, 8)?;
-    output::size(rt, n, 6)?;
-    output::size(rt, places, 8)?;
-    hubs::read_numbers(patterns, &mut chosen);
-    let list = &mut cameras[start..n];
-    put_cameras(list, tables::byte_at(layout, 0), s);
-    call(rt, &chosen[start..s], list, &mut buffer[start..places])
+    print!(rt; "{n:6}{places:8}")?;
+    let chosen = tables::read_numbers(patterns, &mut chosen, tables::card);
+    let list = &mut cameras[..n];
+    put_cameras(list, Layout::named(layout), chosen.len());
+    call(rt, chosen, list, &mut buffer[..places])
 }

@@ -7,7 +7,6 @@ mod counts;
 mod docks;
 mod hub_plans;
 mod hubs;
-mod input;
 mod joins;
 mod library;
 mod long_hubs;
@@ -16,17 +15,16 @@ mod long_lists;
 mod output;
 mod plans;
 mod printed;
-mod refusals;
 mod savers;
 mod tables;
 mod tickets;
+mod turned_down;
 mod walks;
 
 use std::io;
 
 // Tables that do not fit into the buffer would be missing from what is printed.
 fn main(rt: HostRuntime) -> io::Result<()> {
-    let mut text = [0u8; 32768];
-    let read = input::fill(&rt, &mut text)?;
-    tables::each(&rt, &text[..read])
+    let mut buffer = [0u8; 32768];
+    tables::each(&rt, standard_input::read_full(&rt, &mut buffer)?)
 }

@@ -9,43 +9,43 @@ use firmware::savers::{dockplan_saver_close, dockplan_saver_new, dockplan_saver_
 use saver::{Answer, Saver};
 use std::io;
 
-// The refusal, the cycle made, the record, and the entries of the cards that wrote, as card:position; 65,535 is no position.
+// Whose calls are made: the saver's own, or those of the library. Three calls with different arguments and columns: as closures they'd be no plainer.
+#[derive(Clone, Copy)]
+pub(crate) enum Calls {
+    Own,
+    Library,
+}
+
+// The refusal, the cycle made, and the record.
+fn record(rt: &impl Print, a: &Answer) -> io::Result<()> {
+    let s = a.saver;
+    let closing = output::yes_or_no(s.closing);
+    print!(rt; "{:8}{:8}{:8}{:8}", a.refusal, a.cycle.0, s.cards, s.pool)?;
+    print!(rt; "{:8}{:8}{:8}{closing:>8}  ", s.taken, s.made.0, s.waiting)
+}
+
+// The answer, and the entries of the cards that wrote, as card:position; 65,535 is no position.
 fn answered(rt: &impl Print, a: Answer) -> io::Result<Saver>
     requires { Given a.saver }
     ensures { IfOk result (λ made. Given made) }
 {
-    let s = a.saver;
-    let written = a.written;
-    output::small(rt, a.refusal, 8)?;
-    output::number(rt, a.cycle.0, 8)?;
-    output::small(rt, s.cards, 8)?;
-    output::number(rt, s.pool, 8)?;
-    output::number(rt, s.taken, 8)?;
-    output::number(rt, s.made.0, 8)?;
-    output::number(rt, s.waiting, 8)?;
-    output::yes_or_no(rt, s.closing)?;
-    output::pad(rt, 0, 2)?;
-    let n: usize = 32;
-    let mut i: usize = 0;
-    let mut shown = false;
-    while i < n {
-        shown = output::of_card(rt, shown, i, written[i].0, 65535)?;
-        i += 1;
-    }
-    output::of_cards(rt, shown)?;
-    Ok(s)
+    record(rt, &a)?;
+    // C has no Option: the answer is the struct that C gets.
+    output::of_cards(rt, &a.written.map(|p| p.0), 65535)?;
+    Ok(a.saver)
 }
 
-fn open(rt: &impl Print, cards: u8, pool: u16, library: bool) -> io::Result<Saver>
+fn open(rt: &impl Print, cards: u8, pool: u16, calls: Calls) -> io::Result<Saver>
     ensures { IfOk result (λ made. Given made) }
 {
-    output::word(rt, output::NEW)?;
-    if library {
-        return answered(rt, dockplan_saver_new(cards, pool));
+    rt.print("new  ")?;
+    match calls {
+        Calls::Own => {
+            print!(rt; "{cards:6}{pool:6}")?;
+            answered(rt, Saver::new(cards, pool))
+        }
+        Calls::Library => answered(rt, dockplan_saver_new(cards, pool)),
     }
-    output::small(rt, cards, 6)?;
-    output::number(rt, pool, 6)?;
-    answered(rt, Saver::new(cards, pool))
 }
 
 // 4,095 saves on card 0, which are not shown.
@@ -54,51 +54,59 @@ fn many(s: Saver) -> Saver
     ensures { Given result }
 {
     let mut now = s;
-    let mut i: u16 = 0;
-    while i < 4095 {
-        let a = now.save(0);
-        now = a.saver;
-        i += 1;
+    for _ in 0..4095 {
+        now = now.save(0).saver;
     }
     now
 }
 
-fn call(rt: &impl Print, s: Saver, b: u8, library: bool) -> io::Result<Saver>
+fn close(rt: &impl Print, s: Saver, calls: Calls) -> io::Result<Saver>
     requires { Given s }
     ensures { IfOk result (λ made. Given made) }
 {
-    if b == b'm' {
-        return Ok(many(s));
-    }
-    if b == b'c' {
-        output::word(rt, output::CLOSE)?;
-        if library {
-            return answered(rt, dockplan_saver_close(s));
+    rt.print("\nclose")?;
+    match calls {
+        Calls::Own => {
+            print!(rt; "{:12}", "")?;
+            answered(rt, s.close())
         }
-        output::pad(rt, 0, 12)?;
-        return answered(rt, s.close());
+        Calls::Library => answered(rt, dockplan_saver_close(s)),
     }
-    let card = (tables::number(b) % 256) as u8;
-    output::word(rt, output::SAVE)?;
-    if library {
-        return answered(rt, dockplan_saver_save(s, card));
+}
+
+fn save(rt: &impl Print, s: Saver, card: u8, calls: Calls) -> io::Result<Saver>
+    requires { Given s }
+    ensures { IfOk result (λ made. Given made) }
+{
+    rt.print("\nsave ")?;
+    match calls {
+        Calls::Own => {
+            print!(rt; "{card:6}{:6}", "")?;
+            answered(rt, s.save(card))
+        }
+        Calls::Library => answered(rt, dockplan_saver_save(s, card)),
     }
-    output::small(rt, card, 6)?;
-    output::pad(rt, 0, 6)?;
-    answered(rt, s.save(card))
+}
+
+fn call(rt: &impl Print, s: Saver, b: u8, calls: Calls) -> io::Result<Saver>
+    requires { Given s }
+    ensures { IfOk result (λ made. Given made) }
+{
+    match b {
+        b'm' => Ok(many(s)),
+        b'c' => close(rt, s, calls),
+        _ => save(rt, s, tables::card(b), calls),
+    }
 }
 
 // A new saver, and calls of it. The library's calls are shown for the saver of document 01's first save, list 0 0 1 with a pool of 2, with a card
 // that is not there, a save too late and a close too many; then for a saver that is refused.
-pub(crate) fn series(rt: &impl Print, new: &[u8], text: &[u8], library: bool) -> io::Result<()> {
-    let cards = tables::number(tables::byte_at(new, 0));
-    let pool = tables::number(tables::byte_at(new, 1));
-    let n = text.len();
-    let mut now = open(rt, (cards % 256) as u8, pool, library)?;
-    let mut i: usize = 0;
-    while i < n {
-        now = call(rt, now, text[i], library)?;
-        i += 1;
+pub(crate) fn series(rt: &impl Print, new: &[u8], text: &[u8], calls: Calls) -> io::Result<()> {
+    // Cut off on purpose: `try_from` would be a Result that is never an Err.
+    let cards = (tables::number_at(new, 0) % 256) as u8;
+    let mut now = open(rt, cards, tables::number_at(new, 1), calls)?;
+    for b in text {
+        now = call(rt, now, *b, calls)?;
     }
     Ok(())
 }

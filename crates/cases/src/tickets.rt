@@ -1,81 +1,74 @@
 // Tickets: the header's fields, the cards of the frames, the frames of each card, the lines and the capture seconds.
 use crate::output;
 use counting::Position;
-use header::Answer;
+use header::Header;
+use header::limits::FRAMES;
+use plain_answers::tickets::refusal_number;
+use refusals::Refusal;
 use std::io;
+use ticket::Ticket;
 
-// The five fields of a header, or the number of its refusal.
-fn fields(rt: &impl Print, a: Answer) -> io::Result<()> {
+// The five fields of a header.
+fn fields(rt: &impl Print, h: Header) -> io::Result<()> {
+    print!(rt;
+        "{:7}{:7}{:7}{:7}{:7}",
+        h.edition, h.mode, h.cards, h.pool, h.frames
+    )
+}
+
+// The fields, or the number of a refusal.
+fn answer(rt: &impl Print, a: Result<Header, Refusal>) -> io::Result<()> {
     match a {
-        Answer::Accepted(h) => {
-            output::small(rt, h.edition, 7)?;
-            output::small(rt, h.mode, 7)?;
-            output::small(rt, h.cards, 7)?;
-            output::number(rt, h.pool, 7)?;
-            output::number(rt, h.frames, 7)
-        }
-        Answer::Refused(k) => output::small(rt, k, 35),
+        Ok(h) => fields(rt, h),
+        Err(refusal) => print!(rt; "{:35}", u8::from(refusal)),
     }
 }
 
-// The cards that have frames, as card:frames.
-fn frames_of_cards(rt: &impl Print, count: [u16; 32]) -> io::Result<()> {
-    let n: usize = 32;
-    let mut i: usize = 0;
-    let mut shown = false;
-    while i < n {
-        shown = output::of_card(rt, shown, i, count[i], 0)?;
-        i += 1;
+// The cards of a ticket that is read, zeros beside a refusal.
+pub(crate) fn cards(ticket: Result<Ticket, Refusal>) -> [u8; FRAMES] {
+    match ticket {
+        Ok(ticket) => ticket.card,
+        Err(_) => [0; FRAMES],
     }
-    output::of_cards(rt, shown)
 }
 
 // What heading, parse and counts say of a ticket.
 pub(crate) fn accepted(rt: &impl Print, t: &[u8]) -> io::Result<()> {
     output::ticket(rt, t)?;
-    fields(rt, header::heading(t))?;
+    answer(rt, header::heading(t))?;
     let ticket = ticket::parse(t);
-    let answer = ticket.answer;
-    let card = ticket.card;
-    fields(rt, answer)?;
-    output::small_list(rt, &card, 5, 3)?;
-    frames_of_cards(rt, ticket::counts(t))
+    answer(rt, ticket.map(|ticket| ticket.header))?;
+    output::list(rt, &cards(ticket), 5, 3)?;
+    output::of_cards(rt, &ticket::counts(t), 0)
 }
 
 // The number beside a ticket, and the capture second at the first four positions and at the largest number.
 pub(crate) fn seconds(rt: &impl Print, t: &[u8]) -> io::Result<()> {
     output::ticket(rt, t)?;
-    let shown = t.len();
-    output::pad(rt, if shown < 32 { 32 } else { shown }, 50)?;
-    output::small(rt, ticket::refusal(t), 8)?;
-    second(rt, t, 0)?;
-    second(rt, t, 1)?;
-    second(rt, t, 2)?;
-    second(rt, t, 3)?;
-    second(rt, t, 65535)
-}
-
-fn second(rt: &impl Print, t: &[u8], position: u16) -> io::Result<()> {
-    output::size(rt, ticket::second(t, Position(position)) as usize, 11)
+    let rest = 50usize.saturating_sub(t.len().max(32));
+    print!(rt; "{:rest$}{:8}", "", refusal_number(ticket::refusal(t)))?;
+    for p in [0, 1, 2, 3, 65535] {
+        print!(rt; "{:11}", ticket::second(t, Position(p)))?;
+    }
+    Ok(())
 }
 
 // The line at a position, and the number beside it.
-fn line(rt: &impl Print, t: &[u8], position: u16) -> io::Result<()> {
+fn line(rt: &impl Print, t: &[u8], p: Position) -> io::Result<()> {
     output::ticket(rt, t)?;
-    output::number(rt, position, 9)?;
-    output::small(rt, ticket::line_refusal(t, Position(position)), 9)?;
-    output::pad(rt, 0, 2)?;
-    output::byte(rt, b'"')?;
-    output::text(rt, ticket::line(t, Position(position)))?;
-    output::byte(rt, b'"')?;
-    output::byte(rt, b'\n')
+    print!(rt;
+        "{:9}{:9}  \"",
+        p.0,
+        refusal_number(ticket::line_refusal(t, p))
+    )?;
+    rt.write_all(ticket::line(t, p))?;
+    rt.print("\"\n")
 }
 
 // The lines at the first four positions, and at the largest number.
 pub(crate) fn lines(rt: &impl Print, t: &[u8]) -> io::Result<()> {
-    line(rt, t, 0)?;
-    line(rt, t, 1)?;
-    line(rt, t, 2)?;
-    line(rt, t, 3)?;
-    line(rt, t, 65535)
+    for p in [0, 1, 2, 3, 65535] {
+        line(rt, t, Position(p))?;
+    }
+    Ok(())
 }

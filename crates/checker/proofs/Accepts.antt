@@ -22,22 +22,23 @@ use Rattle.header.specs.Limits.{mode_read, mode_save}
 use Rattle.header.specs.declared.Header.{Header}
 use Rattle.ticket.specs.Ticket.{accepted, parse}
 use Rattle.ticket.proofs.Main.{accepted_fits}
-use Rattle.checker.specs.Check.{answer_of, check_of}
+use Rattle.checker.specs.Check.{check_of}
 use Rattle.checker.specs.Numbers.{valid_number, fault_number, numbers_of}
 use Rattle.checker.specs.Exact.{Exact}
 use Rattle.checker.specs.declared.Verdict.{Verdict}
-use Rattle.checker.specs.declared.Verdict.TheVariants.{Valid, Refused}
-use Rattle.checker.proofs.Numbers.{verdict_number, position_number, peak_number, no_peak, from_two, was_valid, was_fault}
+use Rattle.checker.specs.declared.Verdict.TheVariants.{Valid}
+use Rattle.std.specs.Prelude.{Result, Ok, Err}
+use Rattle.checker.proofs.Numbers.{to_answer, verdict_number, position_number, peak_number, no_peak, from_two, was_valid, was_fault}
 
 -- the answer to a plan of an accepted ticket, where the theory's verdict on it is v: 11, or v
-abbrev to_plan : List ℕ → List ℕ → theory.Verdict → Verdict
-to_plan cards cycles v = cond (eqb (length cycles) (length cards)) (answer_of v) (Refused 11)
+abbrev to_plan : List ℕ → List ℕ → theory.Verdict → Result Verdict ℕ
+to_plan cards cycles v = cond (eqb (length cycles) (length cards)) (to_answer v) (Err 11)
 
 module _ (cards cycles : List ℕ) (v : theory.Verdict) where
-  as_long : length cycles ≡ length cards → to_plan cards cycles v ≡ answer_of v
+  as_long : length cycles ≡ length cards → to_plan cards cycles v ≡ to_answer v
   as_long l = rw (eq-eqb (length cycles) (length cards) l)
 
-  not_as_long : length cycles ≢ length cards → to_plan cards cycles v ≡ Refused 11
+  not_as_long : length cycles ≢ length cards → to_plan cards cycles v ≡ Err 11
   not_as_long l = rw (ne_eqb (length cycles) (length cards) l)
 
 -- which verdict that is
@@ -51,9 +52,9 @@ module _ (h : Header) (cards cycles : List ℕ) where
   answer_save q = rw q
 
 -- what the numbers of the answer say, for a read as for a save
-module _ (backlog : List ℕ → ℕ → ℕ) (m : ℕ) (cards cycles : List ℕ) (v : theory.Verdict) (r : Verdict) (r-is : r ≡ to_plan cards cycles v) where
+module _ (backlog : List ℕ → ℕ → ℕ) (m : ℕ) (cards cycles : List ℕ) (v : theory.Verdict) (r : Result Verdict ℕ) (r-is : r ≡ to_plan cards cycles v) where
   -- an answer with a verdict's number is the verdict on a plan of L cycles
-  judged : 1 ≤ verdict_number r → (length cycles ≡ length cards) × (r ≡ answer_of v)
+  judged : 1 ≤ verdict_number r → (length cycles ≡ length cards) × (r ≡ to_answer v)
   judged n =
       elim (ℕ_discrete (length cycles) (length cards)) [
         | yes l ↦ (l, r-is ∙ as_long cards cycles v l)
@@ -69,7 +70,7 @@ module _ (backlog : List ℕ → ℕ → ℕ) (m : ℕ) (cards cycles : List ℕ
         let j = judged (omega (arith, e)) in
         let w = was_valid v (sym (ap verdict_number j.1) ∙ e) in
         sound j.0 w.0 w.1 w.2,
-    λ ok. ap verdict_number (r-is ∙ as_long cards cycles v ok.proper.one_each ∙ ap answer_of (whole ok)),
+    λ ok. ap verdict_number (r-is ∙ as_long cards cycles v ok.proper.one_each ∙ ap to_answer (whole ok)),
   )
 
   exact_fault :
@@ -77,10 +78,10 @@ module _ (backlog : List ℕ → ℕ → ℕ) (m : ℕ) (cards cycles : List ℕ
       → (f : Fault) → verdict_number r ≡ fault_number f → Named backlog m cards cycles (position_number r) f
   exact_fault named f e =
       let j = judged (omega (arith, e, from_two f)) in
-      rw j.1 (named (position_number (answer_of v)) f (was_fault v f (sym (ap verdict_number j.1) ∙ e)))
+      rw j.1 (named (position_number (to_answer v)) f (was_fault v f (sym (ap verdict_number j.1) ∙ e)))
 
 -- a call's answer to a read ticket, and to a save ticket
-module _ (t cycles : List ℕ) (r : Verdict) (e : r ≡ check_of (parse t) cycles) (h : Header) (cards : List ℕ) (a : parse t ≡ accepted h cards) where
+module _ (t cycles : List ℕ) (r : Result Verdict ℕ) (e : r ≡ check_of (parse t) cycles) (h : Header) (cards : List ℕ) (a : parse t ≡ accepted h cards) where
   of_read : h.mode ≡ mode_read → r ≡ to_plan cards cycles (verdict_on_read h.pool cards cycles)
   of_read q = e ∙ ap (λ p. check_of p cycles) a ∙ answer_read h cards cycles q
 
@@ -93,10 +94,10 @@ module _ (t cycles : List ℕ) (r : Verdict) (e : r ≡ check_of (parse t) cycle
         (verdict_number r ≡ valid_number → CorrectRead h.pool cards cycles) × (CorrectRead h.pool cards cycles → verdict_number r ≡ valid_number)
     read_exact = exact_plan i_backlog h.pool cards cycles _ r (of_read q) (valid_read h.pool cards cycles) (read_valid h.pool cards cycles)
 
-    pub valid_whole : CorrectRead h.pool cards cycles → r ≡ Valid (record { 0 = cycles_in cycles }) (buffers_needed cards cycles)
+    pub valid_whole : CorrectRead h.pool cards cycles → r ≡ Ok (Valid (record { 0 = cycles_in cycles }) (buffers_needed cards cycles))
     valid_whole ok =
         of_read q ∙ as_long cards cycles (verdict_on_read h.pool cards cycles) ok.proper.one_each
-        ∙ ap answer_of (read_valid h.pool cards cycles ok)
+        ∙ ap to_answer (read_valid h.pool cards cycles ok)
 
     peak_decides :
         Proper cards cycles
@@ -112,7 +113,7 @@ module _ (t cycles : List ℕ) (r : Verdict) (e : r ≡ check_of (parse t) cycle
       peak_smallest : (m : ℕ) → (CorrectRead m cards cycles → peak_number r ≤ m) × (peak_number r ≤ m → CorrectRead m cards cycles)
       peak_smallest m = rw peak_is (correct_within_peak cards cycles (read_exact.0 v).proper m)
 
-pub exact : (t cycles : List ℕ) (r : Verdict) → r ≡ check_of (parse t) cycles → Exact t cycles (verdict_number r) (position_number r) (peak_number r)
+pub exact : (t cycles : List ℕ) (r : Result Verdict ℕ) → r ≡ check_of (parse t) cycles → Exact t cycles (verdict_number r) (position_number r) (peak_number r)
 exact t cycles r e =
     record {
       read_plan = read_exact t cycles r e;
@@ -130,7 +131,7 @@ exact t cycles r e =
 
 -- the three clauses of `check`
 pub contract :
-    (t cycles : List ℕ) (r : Verdict) → r ≡ check_of (parse t) cycles
+    (t cycles : List ℕ) (r : Result Verdict ℕ) → r ≡ check_of (parse t) cycles
     → (r ≡ check_of (parse t) cycles)
     × ((numbers_of r ≡ numbers_of (check_of (parse t) cycles)) × Exact t cycles (verdict_number r) (position_number r) (peak_number r))
 contract t cycles r e = (e, (ap numbers_of e, exact t cycles r e))
@@ -139,33 +140,32 @@ module _ (t : List ℕ) (h : Header) (cards : List ℕ) (e : parse t ≡ accepte
   pub own_read :
       h.mode ≡ mode_read
       → check_of (parse t) (lazy_prefetching h.pool cards).cycles
-      ≡ Valid (record { 0 = (lazy_prefetching h.pool cards).T })
-      (buffers_needed cards (lazy_prefetching h.pool cards).cycles)
+      ≡ Ok (Valid (record { 0 = (lazy_prefetching h.pool cards).T }) (buffers_needed cards (lazy_prefetching h.pool cards).cycles))
   own_read q =
       let pool = (accepted_fits t h cards e).pool.0 in
       let cycles : List ℕ = (lazy_prefetching h.pool cards).cycles in
       valid_whole t cycles _ refl h cards e q (read_correct h.pool cards pool)
-      ∙ ap (λ T. Valid (record { 0 = T }) (buffers_needed cards cycles)) (read_length h.pool cards pool)
+      ∙ ap (λ T. Ok (Valid (record { 0 = T }) (buffers_needed cards cycles))) (read_length h.pool cards pool)
 
   pub own_read_peak : h.mode ≡ mode_read → peak_number (check_of (parse t) (lazy_prefetching h.pool cards).cycles) ≤ h.pool
   own_read_peak q = rw (own_read q) (own_peak h.pool cards (accepted_fits t h cards e).pool.0)
 
   pub own_save :
-      h.mode ≡ mode_save → check_of (parse t) (greedy_writing h.pool cards).cycles ≡ Valid (record { 0 = (greedy_writing h.pool cards).T }) 0
+      h.mode ≡ mode_save → check_of (parse t) (greedy_writing h.pool cards).cycles ≡ Ok (Valid (record { 0 = (greedy_writing h.pool cards).T }) 0)
   own_save q =
       let pool = (accepted_fits t h cards e).pool.0 in
       let cycles : List ℕ = (greedy_writing h.pool cards).cycles in
       ap (λ p. check_of p cycles) e ∙ answer_save h cards cycles q
       ∙ as_long cards cycles (verdict_on_save h.pool cards cycles) (save_correct h.pool cards pool).proper.one_each
-      ∙ ap answer_of (own_save_valid h.pool cards pool)
+      ∙ ap to_answer (own_save_valid h.pool cards pool)
 
 -- a read plan that is valid for one ticket, given with another that has the same list
 module _ (t t' : List ℕ) (h h' : Header) (cards cycles : List ℕ) (T : Cycle) (p : ℕ) (a : parse t ≡ accepted h cards)
-    (a' : parse t' ≡ accepted h' cards) (q : h.mode ≡ mode_read) (q' : h'.mode ≡ mode_read) (valid-here : check_of (parse t) cycles ≡ Valid T p) where
+    (a' : parse t' ≡ accepted h' cards) (q : h.mode ≡ mode_read) (q' : h'.mode ≡ mode_read) (valid-here : check_of (parse t) cycles ≡ Ok (Valid T p)) where
   correct_here : CorrectRead h.pool cards cycles
   correct_here = (read_exact t cycles _ refl h cards a q).0 (ap verdict_number valid-here)
 
-  whole_here : check_of (parse t) cycles ≡ Valid (record { 0 = cycles_in cycles }) (buffers_needed cards cycles)
+  whole_here : check_of (parse t) cycles ≡ Ok (Valid (record { 0 = cycles_in cycles }) (buffers_needed cards cycles))
   whole_here = valid_whole t cycles _ refl h cards a q correct_here
 
   within : (CorrectRead h'.pool cards cycles → p ≤ h'.pool) × (p ≤ h'.pool → CorrectRead h'.pool cards cycles)
@@ -173,8 +173,8 @@ module _ (t t' : List ℕ) (h h' : Header) (cards cycles : List ℕ) (T : Cycle)
       let p-is : p ≡ buffers_needed cards cycles = ap peak_number (sym valid-here ∙ whole_here) in
       rw p-is (correct_within_peak cards cycles correct_here.proper h'.pool)
 
-  pub valid_there : p ≤ h'.pool → check_of (parse t') cycles ≡ Valid T p
+  pub valid_there : p ≤ h'.pool → check_of (parse t') cycles ≡ Ok (Valid T p)
   valid_there l = valid_whole t' cycles _ refl h' cards a' q' (within.1 l) ∙ sym whole_here ∙ valid-here
 
-  pub peak_there : (T' : Cycle) (p' : ℕ) → check_of (parse t') cycles ≡ Valid T' p' → p ≤ h'.pool
+  pub peak_there : (T' : Cycle) (p' : ℕ) → check_of (parse t') cycles ≡ Ok (Valid T' p') → p ≤ h'.pool
   peak_there T' p' v = within.0 ((read_exact t' cycles _ refl h' cards a' q').0 (ap verdict_number v))

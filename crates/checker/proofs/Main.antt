@@ -16,13 +16,14 @@ use Rattle.checker.specs.Exact.{Exact}
 use Rattle.checker.specs.Cases.{told, asked}
 use Rattle.checker.specs.declared.Verdict.{Verdict}
 use Rattle.checker.specs.declared.Verdict.TheVariants.{Valid}
+use Rattle.std.specs.Prelude.{Result, Ok}
 use Rattle.checker.proofs.Cases as table
 use Rattle.checker.proofs.Accepts as accepts
 
 -- Every answer that equals the definition, for whichever ticket and plan, is valid exactly when the plan meets the paper's conditions, and
 -- otherwise names the lowest position at fault, and of its faults the first; a read's peak decides for which pools its plan is valid.
 pub check_exact :
-    (t cycles : List ℕ) (r : Verdict) → r ≡ check_of (parse t) cycles → Exact t cycles (numbers_of r).verdict (numbers_of r).position.0 (numbers_of r).peak
+    (t cycles : List ℕ) (r : Result Verdict ℕ) → r ≡ check_of (parse t) cycles → Exact t cycles (numbers_of r).verdict (numbers_of r).position.0 (numbers_of r).peak
 check_exact = accepts.exact
 
 -- Our own plans are valid, with their T: the read plan also with the peak of its run on a dock with a buffer for every frame.
@@ -30,8 +31,7 @@ module _ (t : List ℕ) (h : Header) (cards : List ℕ) (e : parse t ≡ accepte
   pub own_read_valid :
       h.mode ≡ mode_read
       → check_of (parse t) (lazy_prefetching h.pool cards).cycles
-      ≡ Valid (record { 0 = (lazy_prefetching h.pool cards).T })
-      (buffers_needed cards (lazy_prefetching h.pool cards).cycles)
+      ≡ Ok (Valid (record { 0 = (lazy_prefetching h.pool cards).T }) (buffers_needed cards (lazy_prefetching h.pool cards).cycles))
   own_read_valid = accepts.own_read t h cards e
 
   -- and that peak is at most the ticket's pool.
@@ -39,15 +39,15 @@ module _ (t : List ℕ) (h : Header) (cards : List ℕ) (e : parse t ≡ accepte
   own_read_peak = accepts.own_read_peak t h cards e
 
   pub own_save_valid :
-      h.mode ≡ mode_save → check_of (parse t) (greedy_writing h.pool cards).cycles ≡ Valid (record { 0 = (greedy_writing h.pool cards).T }) 0
+      h.mode ≡ mode_save → check_of (parse t) (greedy_writing h.pool cards).cycles ≡ Ok (Valid (record { 0 = (greedy_writing h.pool cards).T }) 0)
   own_save_valid = accepts.own_save t h cards e
 
 -- The peak of a valid read plan is the smallest pool for which it is valid: for any other read ticket of the same list, whatever its pool, the
 -- plan is valid exactly where the pool is not below the peak, and then with the same T and peak.
 module _ (t t' : List ℕ) (h h' : Header) (cards cycles : List ℕ) (T : Cycle) (p : ℕ) where
   pub valid_from_peak :
-      parse t ≡ accepted h cards → parse t' ≡ accepted h' cards → h.mode ≡ mode_read → h'.mode ≡ mode_read → check_of (parse t) cycles ≡ Valid T p
-      → (p ≤ h'.pool → check_of (parse t') cycles ≡ Valid T p) × ((T' : Cycle) (p' : ℕ) → check_of (parse t') cycles ≡ Valid T' p' → p ≤ h'.pool)
+      parse t ≡ accepted h cards → parse t' ≡ accepted h' cards → h.mode ≡ mode_read → h'.mode ≡ mode_read → check_of (parse t) cycles ≡ Ok (Valid T p)
+      → (p ≤ h'.pool → check_of (parse t') cycles ≡ Ok (Valid T p)) × ((T' : Cycle) (p' : ℕ) → check_of (parse t') cycles ≡ Ok (Valid T' p') → p ≤ h'.pool)
   valid_from_peak a a' q q' v = (
     accepts.valid_there t t' h h' cards cycles T p a a' q q' v,
     accepts.peak_there t t' h h' cards cycles T p a a' q q' v,

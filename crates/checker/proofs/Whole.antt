@@ -22,7 +22,7 @@ use Rattle.pool_table.specs.Table.{Low}
 use Rattle.plan_faults.specs.Faults.{Checking, Decided, fault_at, found_in, first_fault}
 use Rattle.plan_faults.specs.Searches.{LowCycles}
 use Rattle.plan_faults.specs.declared.Found.{Found}
-use Rattle.plan_faults.specs.declared.Found.TheVariants.{Nothing}
+use Rattle.std.specs.Prelude.{Option, None}
 use Rattle.plan_faults.proofs.FirstFault.{clear, all_roomy}
 use Rattle.checker.specs.Check.{at_fault, answer_of, verdict_on}
 use Rattle.checker.specs.Completed.{completed}
@@ -35,7 +35,7 @@ fault_as T peak i overfull = refl
 
 -- the whole list: T and the peak where there is no fault
 completed_verdict :
-    (save : Bool) (m : ℕ) (cards cycles : List ℕ) (r : Found) (T peak T' peak' : ℕ) → length cycles ≡ length cards
+    (save : Bool) (m : ℕ) (cards cycles : List ℕ) (r : Option Found) (T peak T' peak' : ℕ) → length cycles ≡ length cards
     → r ≡ first_fault save m cards cycles → (Correct (backlog_of save) m cards cycles → (T ≡ T') × (peak ≡ peak'))
     → completed r T peak ≡ answer_of (judge_from (backlog_of save) m cards cycles (length cards) 0 (valid T' peak'))
 unfolding first_fault
@@ -45,7 +45,7 @@ completed_verdict save m cards cycles r T peak T' peak' n r-is same =
     let q : r ≡ fault_at e.0 e.1 = r-is ∙ ap found_in e.2 in
     rw (q, e.3) (fault_as T peak e.0 e.1))
     (λ e.
-    let q : r ≡ Nothing = r-is ∙ ap found_in e.0 in
+    let q : r ≡ None = r-is ∙ ap found_in e.0 in
     let s = same (valid_correct (backlog_of save) m cards cycles clear 0 0 n e.0) in
     rw (q, e.1, s.0, s.1))
     (otherwise (backlog_of save) m cards cycles (length cards) 0 clear (valid T' peak'))
@@ -68,7 +68,7 @@ module _ {cards cycles : List ℕ} (f : Checking cards cycles) where
 
     -- the first fault, or T and the peak: a save has none, a read's is that of its run
     pub judged :
-        (save : Bool) {m : ℕ} {v : Found} {c r p : ℕ} → Decided save m cards cycles c r → v ≡ first_fault save m cards cycles
+        (save : Bool) {m : ℕ} {v : Option Found} {c r p : ℕ} → Decided save m cards cycles c r → v ≡ first_fault save m cards cycles
         → (r ≡ length cycles → p ≡ peak_of save cycles) → completed v top p ≡ answer_of (verdict_on save m cards cycles)
     unfolding verdict_on_read verdict_on_save
     judged true {m} {v} {p = p} d v-is p-is =

@@ -7,17 +7,17 @@ use Rattle.ticket.specs.Ticket.{parse}
 use Rattle.ticket.specs.Print.{ticket_for}
 use Rattle.checker.specs.Check.{answer_of, check_of}
 use Rattle.checker.specs.declared.Verdict.{Verdict}
-use Rattle.checker.specs.declared.Verdict.TheVariants.{Refused}
+use Rattle.std.specs.Prelude.{ℕ, Result, Ok, Err}
 
 -- the answer that the table expects, in the code's words; an answer that is no verdict is no refusal either
-abbrev pub told : Answer → Verdict
-told (plan cycles T) = Refused 0
-told (dock outcome delivered held broken) = Refused 0
-told (most n) = Refused 0
-told (verdict v) = answer_of v
+abbrev pub told : Answer → Result Verdict ℕ
+told (plan cycles T) = Err 0
+told (dock outcome delivered held broken) = Err 0
+told (most n) = Err 0
+told (verdict v) = Ok (answer_of v)
 
 -- a verdict of the table, asked for; the other cases are not about verdicts
-abbrev pub asked : Case → Verdict
+abbrev pub asked : Case → Result Verdict ℕ
 asked (read_plan m cards gives a) = told a
 asked (save_plan m cards gives a) = told a
 asked (keep_plan m cards gives a) = told a

@@ -6,8 +6,9 @@ use Rattle.schedule.specs.Verdict.{Fault, no_cycle, shared_card, overfull, valid
 use Rattle.schedule.specs.Verdict as theory
 use Rattle.header.specs.Limits.{mode_save, mode_save_and_keep}
 use Rattle.ticket.specs.Ticket.{Parsed, accepted, refused}
+use Rattle.std.specs.Prelude.{Result, Ok, Err}
 use Rattle.checker.specs.declared.Verdict.{Verdict}
-use Rattle.checker.specs.declared.Verdict.TheVariants.{Valid, NoCycle, SharedCard, Overfull, Refused}
+use Rattle.checker.specs.declared.Verdict.TheVariants.{Valid, NoCycle, SharedCard, Overfull}
 
 -- a verdict in the code's words
 abbrev pub at_fault : ℕ → Fault → Verdict
@@ -25,8 +26,8 @@ verdict_on true m cards cycles = verdict_on_save m cards cycles
 verdict_on false m cards cycles = verdict_on_read m cards cycles
 
 -- "1 to 9, then 12 before 11": the ticket's own refusals, 17 among them, then mode 02, and a plan that has not exactly L cycles
-unfoldable pub check_of : Parsed → List ℕ → Verdict
+unfoldable pub check_of : Parsed → List ℕ → Result Verdict ℕ
 check_of (accepted h cards) cycles =
-    cond (eqb h.mode mode_save_and_keep) (Refused 12)
-    (cond (eqb (length cycles) (length cards)) (answer_of (verdict_on (eqb h.mode mode_save) h.pool cards cycles)) (Refused 11))
-check_of (refused k) cycles = Refused k
+    cond (eqb h.mode mode_save_and_keep) (Err 12)
+    (cond (eqb (length cycles) (length cards)) (Ok (answer_of (verdict_on (eqb h.mode mode_save) h.pool cards cycles))) (Err 11))
+check_of (refused k) cycles = Err k

@@ -4,8 +4,9 @@ use Rattle.std.specs.Prelude.{ℕ}
 use Rattle.schedule.specs.Verdict.{Fault, no_cycle, shared_card, overfull}
 use Rattle.counting.specs.declared.Cycle.{Cycle}
 use Rattle.counting.specs.declared.Position.{Position}
+use Rattle.std.specs.Prelude.{Result, Ok, Err}
 use Rattle.checker.specs.declared.Verdict.{Verdict}
-use Rattle.checker.specs.declared.Verdict.TheVariants.{Valid, NoCycle, SharedCard, Overfull, Refused}
+use Rattle.checker.specs.declared.Verdict.TheVariants.{Valid, NoCycle, SharedCard, Overfull}
 
 -- The refusal's number, 0 for none; the verdict's, 0 beside a refusal; the position at fault, T and the peak, each 0 where there is none.
 pub record Numbers : Type 0 where
@@ -36,9 +37,9 @@ fault_at p f = record { refusal = 0; verdict = fault_number f; position = p; cyc
 abbrev pub refused_by : ℕ → Numbers
 refused_by k = record { refusal = k; verdict = 0; position = record { 0 = 0 }; cycles = record { 0 = 0 }; peak = 0 }
 
-abbrev pub numbers_of : Verdict → Numbers
-numbers_of (Valid T peak) = valid_with T peak
-numbers_of (NoCycle p) = fault_at p no_cycle
-numbers_of (SharedCard p) = fault_at p shared_card
-numbers_of (Overfull p) = fault_at p overfull
-numbers_of (Refused k) = refused_by k
+abbrev pub numbers_of : Result Verdict ℕ → Numbers
+numbers_of (Ok (Valid T peak)) = valid_with T peak
+numbers_of (Ok (NoCycle p)) = fault_at p no_cycle
+numbers_of (Ok (SharedCard p)) = fault_at p shared_card
+numbers_of (Ok (Overfull p)) = fault_at p overfull
+numbers_of (Err k) = refused_by k

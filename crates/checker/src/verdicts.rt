@@ -14,18 +14,19 @@ use plan_faults::Found;
 use pool_counts::Room;
 
 // The fault that was found; or valid, with T and the peak.
-fn complete(found: Found, top: Cycle, peak: u16) -> Verdict
+fn complete(found: Option<Found>, top: Cycle, peak: u16) -> Verdict
     ensures { result ≡ completed found top.0 peak }
 {
     match found {
-        Found::Nothing => Verdict::Valid(top, peak),
-        Found::CycleMissing(p) => Verdict::NoCycle(p),
-        Found::CardShared(p) => Verdict::SharedCard(p),
-        Found::PoolOverfull(p) => Verdict::Overfull(p),
+        None => Verdict::Valid(top, peak),
+        Some(Found::CycleMissing(p)) => Verdict::NoCycle(p),
+        Some(Found::CardShared(p)) => Verdict::SharedCard(p),
+        Some(Found::PoolOverfull(p)) => Verdict::Overfull(p),
     }
 }
 
-// The pools of a plan: from a table where no cycle is over 4,096, as in our own plans, and else counted.
+// The pools of a plan: from a table where no cycle is over 4,096, as in our own plans, and else counted. `low` picks one of the two, once a call.
+// `save` is handed on, as the two calls take it: docs/PROMISES.md names them, and their clauses speak of it (`roomy_of save`).
 fn pools(save: bool, low: bool, plan: &[u16], top: Cycle, m: u16) -> Room
     requires { (length plan.now ≤ max_frames) × (1 ≤ m) × (low ≡ true → Low plan.now top.0) }
     ensures roomy { result.roomy ≡ roomy_of save m plan.now }
@@ -37,7 +38,8 @@ fn pools(save: bool, low: bool, plan: &[u16], top: Cycle, m: u16) -> Room
     pool_counts::plans::pools(save, plan, m)
 }
 
-// The verdict on any plan.
+// The verdict on any plan. Cards and plan are two slices, and `save` is a flag, as plan_faults and both kinds of `pools` take them. `1 ≤ m` holds of
+// each ticket's pool; `Header.pool` is a u16, since a text that is refused may have 0 there, so a NonZeroU16 would come by an Option that is never None.
 pub(crate) fn verdict(save: bool, cards: &[u8], plan: &[u16], m: u16) -> Verdict
     requires { Checking cards.now plan.now × (1 ≤ m) }
     ensures { result ≡ answer_of (verdict_on save m cards.now plan.now) }

@@ -49,7 +49,7 @@ sets_append l i [] b k e =
 sets_append l i (x ∷ a) b k e = sets_append (set l i x) (suc i) a b k (omega (arith, e))
 
 -- a store before a run of stores, and a run before where it begins: the order does not matter
-set_sets : (l : List ℕ) (i k x : ℕ) (b : List ℕ) → i < k → set (sets l k b) i x ≡ sets (set l i x) k b
+pub set_sets : (l : List ℕ) (i k x : ℕ) (b : List ℕ) → i < k → set (sets l k b) i x ≡ sets (set l i x) k b
 set_sets l i k x [] h = refl
 set_sets l i k x (y ∷ b) h =
     set_sets (set l k y) i (suc k) x b (omega arith)

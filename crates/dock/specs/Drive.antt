@@ -5,7 +5,8 @@
 -- Edge cases, which no dock that a call gave has: a read takes no buffer where all frames are counted as held, a drop frees none where none is,
 -- and the count of frames held does not go below 0.
 -- Assumes nothing.
-use Rattle.std.specs.Prelude.{ℕ, ◌+◌, ◌-◌, ◌%◌, ◌≡◌, Bool, false, not, ◌&&◌, ◌||◌, cond, List, [], ◌∷◌, ◌++◌, leb, ltb, length, get_or, set}
+use Rattle.std.specs.Prelude.{ℕ, ◌+◌, ◌-◌, ◌%◌, ◌≡◌, Bool, false, not, ◌&&◌, ◌||◌, cond, Result, Ok, Err, List, [], ◌∷◌, ◌++◌, leb, ltb, length, get_or, set}
+use Rattle.std.specs.Result.{result_unwrap_or}
 use Rattle.counting.specs.Count.{tabulate}
 use Rattle.schedule.specs.Dock.{empty_dock, deliver, Step as ModelStep, Dock as ModelDock}
 use Rattle.schedule.specs.Dock as model
@@ -14,7 +15,6 @@ use Rattle.dock.specs.Records.{broken_off, turn_used, now_holding, cycle_ended}
 use Rattle.dock.specs.declared.Dock.{Dock}
 use Rattle.dock.specs.declared.Step.{Step}
 use Rattle.dock.specs.declared.Step.TheVariants.{Read, Drop, End}
-use Rattle.dock.specs.declared.Driven.{Driven as Answer}
 
 -- the card in a frame's byte, and whether the frame is held
 abbrev pub card_in : ℕ → ℕ
@@ -79,23 +79,28 @@ module _ (dock : Dock) (memory : List ℕ) where
   abbrev pub too_short : Bool
   too_short = ltb (length memory) dock.frames
 
-  -- What `drive` answers: 10 and the record as it was where lent memory has fewer than L places, else the record after the step.
-  unfoldable pub drive_of : Step → Answer
-  drive_of step = cond too_short (record { refusal = 10; dock = dock }) (record { refusal = 0; dock = record_after step })
+  -- What `drive` answers: 10 where lent memory has fewer than L places, else the record after the step.
+  unfoldable pub drive_of : Step → Result Dock ℕ
+  drive_of step = cond too_short (Err 10) (Ok (record_after step))
 
   -- The memory after `drive`; a refusal changes nothing.
   unfoldable pub memory_driven : Step → List ℕ
   memory_driven step = cond too_short memory (bytes_after step)
 
--- One call of `drive` follows the model: whichever dock of the model the record and the memory show, the model's step of it is shown afterwards.
-pub record Follows (dock : Dock) (step : Step) (before : List ℕ) (r : Answer) (after : List ℕ) : Type 0 where
+-- The dock after a call: the one answered, and with a refusal the one that was handed in.
+abbrev pub dock_after : Dock → Result Dock ℕ → Dock
+dock_after dock r = result_unwrap_or r dock
+
+-- One call of `drive` follows the model: whichever dock of the model the record and the memory show, it isn't refused, and the model's step of
+-- that dock is shown afterwards.
+pub record Follows (dock : Dock) (step : Step) (before : List ℕ) (r : Result Dock ℕ) (after : List ℕ) : Type 0 where
   pub follows :
       (m : ℕ) (cards : List ℕ) (d : ModelDock) → ShowsDock m cards d dock before
-      → (r.refusal ≡ 0) × ShowsDock m cards (model.step m cards (step_of step) d) r.dock after
+      → (r ≡ Ok (dock_after dock r)) × ShowsDock m cards (model.step m cards (step_of step) d) (dock_after dock r) after
 
 -- Calls of `drive` one after the other, from a dock and memory that show the empty dock: the steps so far, and the dock and the memory now.
 pub data Driving (m : ℕ) (cards : List ℕ) : List ModelStep → Dock → List ℕ → Type 0 where
   begin : (dock : Dock) (memory : List ℕ) → ShowsDock m cards empty_dock dock memory → Driving m cards [] dock memory
   next :
       (steps : List ModelStep) (dock : Dock) (memory : List ℕ) (a : Step) → Driving m cards steps dock memory
-      → Driving m cards (steps ++ (step_of a ∷ [])) (drive_of dock memory a).dock (memory_driven dock memory a)
+      → Driving m cards (steps ++ (step_of a ∷ [])) (dock_after dock (drive_of dock memory a)) (memory_driven dock memory a)

@@ -2,6 +2,7 @@
 #![tactic(auto)]
 
 ghost use Rattle.std.specs.Prelude.{◌≡◌};
+ghost use Rattle.refusals.specs.Numbers.{told};
 ghost use Rattle.dock.specs.State.{new_dock};
 ghost use Rattle.dock.specs.Drive.{drive_of, memory_driven, Follows};
 
@@ -9,6 +10,7 @@ mod steps;
 
 use counting::Position;
 use header::limits;
+use refusals::Refusal;
 
 // A step. Positions past the list are against the rules.
 #[derive(Clone, Copy)]
@@ -32,20 +34,13 @@ pub struct Dock {
     pub busy: [bool; limits::CARDS],
 }
 
-// The dock after a call, and the number of a refusal, 0 for none.
-#[derive(Clone, Copy)]
-pub struct Driven {
-    pub refusal: u8,
-    pub dock: Dock,
-}
-
 // An empty dock for a list of so many frames.
 pub fn empty(pool: u16, frames: u16) -> Dock
     ensures { result ≡ new_dock pool frames }
 {
     Dock {
-        frames: frames,
-        pool: pool,
+        frames,
+        pool,
         delivered: 0,
         holding: 0,
         ended: 0,
@@ -55,21 +50,15 @@ pub fn empty(pool: u16, frames: u16) -> Dock
     }
 }
 
-// One step of the dock. `answer` and `memory` say the whole outcome for every record, step and memory; `follows`, that it is the model's step.
-pub fn drive(dock: Dock, step: Step, memory: &mut [u8]) -> Driven
-    ensures answer { result ≡ drive_of dock memory.old step }
+// One step of the dock: the dock after it. A dock goes in by value, so that with a refusal the caller has it as it was. `answer` and `memory` say
+// the whole outcome for every record, step and memory; `follows`, that it is the model's step.
+pub fn drive(dock: Dock, step: Step, memory: &mut [u8]) -> Result<Dock, Refusal>
+    ensures answer { told result ≡ drive_of dock memory.old step }
     ensures memory { memory.new ≡ memory_driven dock memory.old step }
-    ensures follows { Follows dock step memory.old result memory.new }
+    ensures follows { Follows dock step memory.old (told result) memory.new }
 {
-    let frames = dock.frames as usize;
-    if memory.len() < frames {
-        return Driven {
-            refusal: 10,
-            dock: dock,
-        };
+    if memory.len() < usize::from(dock.frames) {
+        return Err(Refusal::NoRoom);
     }
-    Driven {
-        refusal: 0,
-        dock: steps::advance(dock, step, memory),
-    }
+    Ok(steps::advance(dock, step, memory))
 }

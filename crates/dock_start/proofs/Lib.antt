@@ -1,3 +1,2 @@
 pub mod Main
 pub mod Starting
-pub mod Placing

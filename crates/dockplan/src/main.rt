@@ -2,14 +2,12 @@
 // A ticket is settled by the bytes that the input buffer holds (`front_settles`, crates/printing/proofs/Main.antt), and no more are looked at.
 #![tactic(auto)]
 
-mod input;
-
 use std::io;
 
 fn main(rt: HostRuntime) -> io::Result<()> {
-    let mut ticket = printing::input_buffer();
-    let read = input::read_full(&rt, &mut ticket)?;
+    let mut buffer = printing::input_buffer();
+    let ticket = standard_input::read_full(&rt, &mut buffer)?;
     let mut text = printing::text_buffer();
-    let bytes = printing::print_whole(&ticket[..read], &mut text);
+    let bytes = printing::print_whole(ticket, &mut text);
     rt.write_all(&text[..bytes])
 }

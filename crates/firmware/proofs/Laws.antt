@@ -8,15 +8,14 @@ use Rattle.ticket.specs.Ticket.{parse, refusal_of, counts_of}
 use Rattle.planner.specs.Plan.{plan_of, buffer_after}
 use Rattle.planner.specs.Numbers.{numbers_of}
 use Rattle.planner.specs.Demand3.{Demand3}
-use Rattle.planner.specs.declared.Answer.{Answer}
+use Rattle.std.specs.Prelude.{Result}
+use Rattle.counting.specs.declared.Cycle.{Cycle}
 use Rattle.join.specs.Join.{join_of, answer_of, buffer_after as joined_into}
 use Rattle.join.specs.Numbers.{numbers_of as numbers_of_join}
 use Rattle.join.specs.Showing.{Showing}
-use Rattle.join.specs.declared.Answer.{Answer as JoinAnswer}
 use Rattle.hub.specs.Fullest.{Gathering}
 use Rattle.hub.specs.Gather.{answer_for as gathered_in, buffer_after as gathered_into}
 use Rattle.hub.specs.Numbers.{numbers_of as numbers_of_hub}
-use Rattle.hub.specs.declared.Answer.{Answer as HubAnswer}
 use Rattle.checker.specs.Check.{check_of}
 use Rattle.checker.specs.Numbers.{numbers_of as numbers_of_check}
 use Rattle.checker.specs.Exact.{Exact}
@@ -34,7 +33,7 @@ pub counted :
 counted t number frames e f = rw (e, f) refl
 
 -- the contract of `dockplan_plan` from that of `planner::plan`
-module _ (t before after : List ℕ) (a : Answer) (r : PlanAnswer) (e : r ≡ plan_answer (numbers_of a)) where
+module _ (t before after : List ℕ) (a : Result Cycle ℕ) (r : PlanAnswer) (e : r ≡ plan_answer (numbers_of a)) where
   pub planned :
       (a ≡ plan_of (parse t) (length before))
       × ((after ≡ buffer_after (parse t) before)
@@ -44,7 +43,7 @@ module _ (t before after : List ℕ) (a : Answer) (r : PlanAnswer) (e : r ≡ pl
   planned p = (e ∙ ap plan_answer p.1.1.0, (p.1.0, rw e p.1.1.1))
 
 -- the contract of `dockplan_join` from that of `join::join`
-module _ (first second before after : List ℕ) (a : JoinAnswer) (r : PlainJoin) (e : r ≡ join_answer (numbers_of_join a)) where
+module _ (first second before after : List ℕ) (a : Result ℕ ℕ) (r : PlainJoin) (e : r ≡ join_answer (numbers_of_join a)) where
   pub joined :
       (a ≡ answer_of (join_of first second) (length before))
       × ((after ≡ joined_into (join_of first second) before)
@@ -55,7 +54,7 @@ module _ (first second before after : List ℕ) (a : JoinAnswer) (r : PlainJoin)
   joined p = (e ∙ ap join_answer p.1.1.0, (p.1.0, rw e p.1.1.1))
 
 -- the contract of `dockplan_hub` from that of `hub::gather`
-module _ (chosen cameras before after : List ℕ) (a : HubAnswer) (r : PlainHub) (e : r ≡ hub_answer (numbers_of_hub a)) where
+module _ (chosen cameras before after : List ℕ) (a : Result ℕ ℕ) (r : PlainHub) (e : r ≡ hub_answer (numbers_of_hub a)) where
   pub gathered :
       (a ≡ gathered_in chosen cameras (length before))
       × ((after ≡ gathered_into chosen cameras before)
@@ -66,7 +65,7 @@ module _ (chosen cameras before after : List ℕ) (a : HubAnswer) (r : PlainHub)
   gathered p = (e ∙ ap hub_answer p.1.1.0, (p.1.0, rw e p.1.1.1))
 
 -- the contract of `dockplan_check` from that of `checker::check`
-module _ (t cycles : List ℕ) (v : Verdict) (r : CheckAnswer) (e : r ≡ check_answer (numbers_of_check v)) where
+module _ (t cycles : List ℕ) (v : Result Verdict ℕ) (r : CheckAnswer) (e : r ≡ check_answer (numbers_of_check v)) where
   pub checked :
       (v ≡ check_of (parse t) cycles)
       × ((numbers_of_check v ≡ numbers_of_check (check_of (parse t) cycles))

@@ -1,7 +1,7 @@
 -- Calls with their inputs, and what each answers, in plain numbers: the library's calls by the definitions that their contracts give, and the
 -- dock's calls. specs/Cases.antt is a table of these.
 -- Assumes nothing.
-use Rattle.std.specs.Prelude.{ℕ, Bool, true, false, List, map, length}
+use Rattle.std.specs.Prelude.{ℕ, Bool, true, false, List, map, length, Result as Told, Ok, Err}
 use Rattle.ticket.specs.Ticket.{parse, numbers_in, line_refusal_of}
 use Rattle.planner.specs.Plan.{plan_of, buffer_after}
 use Rattle.planner.specs.Numbers.{numbers_of as numbers_of_plan}
@@ -20,9 +20,9 @@ use Rattle.saver.specs.declared.Saver.{Saver}
 use Rattle.saver.specs.declared.Answer.{Answer as SaverAnswer}
 use Rattle.dock_start.specs.Start.{start_of, memory_started}
 use Rattle.dock.specs.Drive.{drive_of, memory_driven}
+use Rattle.dock.specs.State.{new_dock}
 use Rattle.dock.specs.declared.Dock.{Dock}
 use Rattle.dock.specs.declared.Step.{Step}
-use Rattle.dock.specs.declared.Driven.{Driven}
 use Rattle.plain_answers.specs.Answers.{ticket_answer, line_part, counts_answer, plan_answer, join_answer, hub_answer, check_answer, run_answer}
 use Rattle.plain_answers.specs.declared.tickets.TicketAnswer.{TicketAnswer}
 use Rattle.plain_answers.specs.declared.tickets.Part.{Part}
@@ -142,8 +142,10 @@ of_counts a = card_counts a.refusal a.frames
 abbrev of_saver : SaverAnswer → Result
 of_saver a = saved a.refusal a.cycle.0 (map (λ p. p.0) a.written) a.saver
 
-abbrev of_dock : Driven → List ℕ → Result
-of_dock a memory = dock a.refusal a.dock memory
+-- a dock's call; beside a refusal stands the dock that the caller has
+abbrev of_dock : Dock → Told Dock ℕ → List ℕ → Result
+of_dock before (Ok d) memory = dock 0 d memory
+of_dock before (Err k) memory = dock k before memory
 
 -- two tickets joined, in a buffer
 abbrev join_result : Outcome → List ℕ → Result
@@ -164,5 +166,5 @@ result_of (counts t) = of_counts (counts_answer (parse t))
 result_of (new_saver cards pool) = of_saver (new_of cards pool)
 result_of (save s card) = of_saver (save_of s card)
 result_of (close s) = of_saver (close_of s)
-result_of (start_dock t memory) = of_dock (start_of (parse t) (length memory)) (memory_started (parse t) memory)
-result_of (drive_dock d memory step) = of_dock (drive_of d memory step) (memory_driven d memory step)
+result_of (start_dock t memory) = of_dock (new_dock 0 0) (start_of (parse t) (length memory)) (memory_started (parse t) memory)
+result_of (drive_dock d memory step) = of_dock d (drive_of d memory step) (memory_driven d memory step)

@@ -5,7 +5,7 @@ ghost use Rattle.plain_answers.specs.Answers.{ticket_answer, line_part, counts_a
 
 use counting::Position;
 use header::limits;
-use plain_answers::tickets::{CountsAnswer, Part, TicketAnswer, ticket_answer};
+use plain_answers::tickets::{CountsAnswer, Part, TicketAnswer, refusal_number, ticket_answer};
 
 // Reads the whole ticket, its lines too.
 pub fn dockplan_parse(ticket: &[u8]) -> TicketAnswer
@@ -37,16 +37,14 @@ pub fn dockplan_line(ticket: &[u8], p: Position) -> Part
 pub fn dockplan_line_refusal(ticket: &[u8], p: Position) -> u8
     ensures { result ≡ line_refusal_of (parse ticket.now) p.0 }
 {
-    ticket::line_refusal(ticket, p)
+    refusal_number(ticket::line_refusal(ticket, p))
 }
 
 pub fn dockplan_counts(ticket: &[u8]) -> CountsAnswer
     ensures { result ≡ counts_answer (parse ticket.now) }
 {
-    let number = ticket::refusal(ticket);
-    let frames = ticket::counts(ticket);
     CountsAnswer {
-        refusal: number,
-        frames: frames,
+        refusal: refusal_number(ticket::refusal(ticket)),
+        frames: ticket::counts(ticket),
     }
 }

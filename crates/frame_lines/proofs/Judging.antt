@@ -7,7 +7,7 @@ use mathlib.Core.List.{List}
 use native.Mathlib.Omega.{arith}
 use lib.ListN.{length}
 use borrow.Author.Tests.{lt-ltb, le-ltb}
-use Rattle.text.specs.Text.{digit_values, digits, number, is_line}
+use Rattle.text.specs.Text.{digits, number, is_line}
 use Rattle.text.proofs.Digits.{digit_at, all_digits, line_long, digits_of_line}
 use Rattle.header.specs.Editions.{card_digits, second_digits, line_digits, line_bytes}
 use Rattle.header.proofs.Widths.{widest}
@@ -17,10 +17,9 @@ use Rattle.frame_lines.proofs.OneLine.{digits_after}
 
 -- what reading the card of a line asks
 pub card_asks :
-    {value : List ℕ} (s : List ℕ) (edition at : ℕ) → value ≡ digit_values → {d : ℕ} → d ≡ line_digits edition → is_line s at d ≡ true
-    → (value ≡ digit_values) × (card_digits ≤ 8) × (at + card_digits ≤ length s) × (digits s at card_digits ≡ true)
-card_asks s edition at v {d} q l = (
-  v,
+    (s : List ℕ) (edition at : ℕ) {d : ℕ} → d ≡ line_digits edition → is_line s at d ≡ true
+    → (card_digits ≤ 8) × (at + card_digits ≤ length s) × (digits s at card_digits ≡ true)
+card_asks s edition at {d} q l = (
   omega arith,
   omega (arith, q, line_long s at d l),
   all_digits s at card_digits (λ i h. digit_at s at d i (digits_of_line s at d l) (omega (arith, q))),
@@ -62,11 +61,10 @@ module _ (s : List ℕ) (edition i : ℕ) {d : ℕ} (q : d ≡ line_digits editi
   second_fits l = omega (arith, q, same_place, line_long s (line_bytes edition * i) (line_digits edition) l)
 
   pub second_asks :
-      {value : List ℕ} → value ≡ digit_values → is_line s (line_bytes edition * i) (line_digits edition) ≡ true
-      → (value ≡ digit_values) × (d - card_digits ≤ 8) × ((d + 1) * i + card_digits + (d - card_digits) ≤ length s)
+      is_line s (line_bytes edition * i) (line_digits edition) ≡ true
+      → (d - card_digits ≤ 8) × ((d + 1) * i + card_digits + (d - card_digits) ≤ length s)
       × (digits s ((d + 1) * i + card_digits) (d - card_digits) ≡ true)
-  second_asks v l = (
-    v,
+  second_asks l = (
     omega (arith, same_digits, widest edition),
     omega (arith, same_place, same_digits, line_long s (line_bytes edition * i) (line_digits edition) l),
     rw (same_place, same_digits)

@@ -139,19 +139,25 @@ module _ (edition : ℕ) (s : List ℕ) (none : second_digits edition ≡ 0) whe
   pub nothing_asked : (at i : ℕ) → (digits s at (second_digits edition) ≡ true) × (second_before edition s i ≤ second_at edition s i)
   nothing_asked at i = (no_digits at, omega (arith, before_zero i, all_zero i))
 
--- a second of edition 02, read as x
-pub eight : second_digits edition2 ≡ 8
+-- in edition 02 a second of 8 digits does
+pub eight_of : {edition : ℕ} → edition ≡ edition2 → second_digits edition ≡ 8
 unfolding second_digits
-eight = refl
+eight_of e = rw e refl
 
-module _ (s : List ℕ) (i at x : ℕ) (a : at ≡ line_bytes edition2 * i) (e : x ≡ wide_number s (at + card_digits) 8) where
-  pub none_read : no_number ≤ x → digits s (at + card_digits) (second_digits edition2) ≡ false
-  none_read l = rw eight (above_none s (at + card_digits) 8 (omega arith) (omega (arith, e, l)))
+-- what follows the card, read as x
+module _
+    (edition : ℕ) (s : List ℕ) (i at x : ℕ) {n : ℕ} (few : second_digits edition ≡ n) (a : at ≡ line_bytes edition * i)
+    (e : x ≡ wide_number s (at + card_digits) n) where
+  no_more : n ≤ 8
+  no_more = omega (arith, few, widest edition)
 
-  pub one_read : x < no_number → (digits s (at + card_digits) (second_digits edition2) ≡ true) × (x ≡ second_at edition2 s i)
+  pub none_read : no_number ≤ x → digits s (at + card_digits) (second_digits edition) ≡ false
+  none_read l = rw few (above_none s (at + card_digits) n no_more (omega (arith, e, l)))
+
+  pub one_read : x < no_number → (digits s (at + card_digits) (second_digits edition) ≡ true) × (x ≡ second_at edition s i)
   unfolding second_at
   one_read l =
-      let are = below_are s (at + card_digits) 8 (omega arith) (omega (arith, e, l)) in
-      let there = ap (λ (k : ℕ). number s (k + card_digits) 8) a in
-      let all = ap (λ (n : ℕ). number s (line_bytes edition2 * i + card_digits) n) (sym eight) in
-      (rw eight are.0, e ∙ are.1 ∙ there ∙ all)
+      let are = below_are s (at + card_digits) n no_more (omega (arith, e, l)) in
+      let there = ap (λ (k : ℕ). number s (k + card_digits) n) a in
+      let all = ap (λ (n : ℕ). number s (line_bytes edition * i + card_digits) n) (sym few) in
+      (rw few are.0, e ∙ are.1 ∙ there ∙ all)

@@ -11,13 +11,9 @@ pub fn tally(card: &[u8], n: u16) -> [u16; limits::CARDS]
     requires { (n ≤ length card.now) × (n ≤ max_frames) × ((i : ℕ) → i < n → card_of card.now i < max_cards) }
     ensures { result ≡ counts_up_to card.now n }
 {
-    let end = n as usize;
     let mut count = [0u16; limits::CARDS];
-    let mut i: usize = 0;
-    while i < end {
-        let c = counting::card_index(card[i]);
-        count[c] = count[c] + 1;
-        i += 1;
+    for c in &card[..usize::from(n)] {
+        count[usize::from(*c)] += 1;
     }
     count
 }

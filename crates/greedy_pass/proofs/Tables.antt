@@ -1,6 +1,6 @@
 -- The arrays of the pass hold the tables of proofs/Process, turn by turn, and at the end greedy_writing's plan.
 -- Assumes nothing.
-use Prim.Native.Nat.{ℕ, suc, ◌+◌, ◌-◌, ◌≤◌, ◌<◌, max, zero-le}
+use Prim.Native.Nat.{ℕ, suc, ◌+◌, ◌-◌, ◌≤◌, ◌<◌, max}
 use mathlib.Core.Path.{◌≡◌, refl, sym, ap, ◌∙◌}
 use mathlib.Core.Bool.{Bool}
 use mathlib.Core.List.{List}
@@ -32,7 +32,6 @@ places = suc max_frames
 
 -- the arrays before a turn of the loop: k frames have entered
 pub record Turn (m : ℕ) (back : Bool) (cards out₀ out due latest : List ℕ) (made waiting k : ℕ) : Type 0 where
-  pub inside : k ≤ length cards
   pub same_out : length out ≡ length out₀
   pub rest : drop (length cards) out ≡ drop (length cards) out₀
   pub long_due : length due ≡ places
@@ -50,7 +49,6 @@ pub record Open (m : ℕ) (back : Bool) (cards out due latest : List ℕ) (made 
 pub first_turn : (m : ℕ) (back : Bool) (cards out : List ℕ) → Turn m back cards out out (replicate places 0) (replicate max_cards 0) 0 0 0
 first_turn m back cards out =
     record {
-      inside = zero-le;
       same_out = refl;
       rest = refl;
       long_due = length-replicate {A = ℕ} places 0;
@@ -106,7 +104,6 @@ module _
         pub next_turn : Turn m back cards out₀ (set out i s) (set due u (get_or due u 0 + 1)) (set latest c s) made' (waiting' + 1) (k + 1)
         next_turn =
             record {
-              inside = omega arith;
               same_out = length-set out i s ∙ v.same_out;
               rest = drop-set-lt (length cards) out i s i_inside ∙ v.rest;
               long_due = length-set due u (get_or due u 0 + 1) ∙ v.long_due;
@@ -123,12 +120,12 @@ module _
             }
 
   -- after the last turn
-  module _ (l : length cards ≤ k) {all : ℕ} (all_is : all ≡ largest latest) where
+  module _ (l : k ≡ length cards) {all : ℕ} (all_is : all ≡ largest latest) where
     abbrev list : List ℕ
     list = turned back cards
 
     whole : Saved list places m (length list) (cycle_at back (length cards) out) (entry latest) (entry due) made waiting
-    whole = let e : k ≡ length list = omega (arith, length_turned back cards, v.inside) in rw e at v.saved
+    whole = let e : k ≡ length list = omega (arith, length_turned back cards) in rw e at v.saved
 
     top : Top (length list) (cycle_at back (length cards) out) all
     top =

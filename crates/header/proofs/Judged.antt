@@ -10,8 +10,7 @@ use native.Mathlib.Decide.{dec_le}
 use lib.Dec.{leb}
 use borrow.Author.Tests.{le-leb, lt-leb}
 use Rattle.header.specs.declared.Header.{Header}
-use Rattle.header.specs.declared.Answer.{Answer}
-use Rattle.header.specs.declared.Answer.TheVariants.{Accepted, Refused}
+use Rattle.std.specs.Prelude.{Result, Ok, Err}
 use Rattle.text.specs.Text.{number, is_line}
 use Rattle.header.specs.Heading.{header_digits, header_of, edition_of, within_limits, header_answer, heading}
 use Rattle.header.specs.Editions.{Known}
@@ -34,30 +33,30 @@ range n x =
     ]
 
 module _ (h : Header) where
-  pub judge_3 : mode_save_and_keep < h.mode → within_limits h ≡ Refused 3
+  pub judge_3 : mode_save_and_keep < h.mode → within_limits h ≡ Err 3
   unfolding within_limits
   judge_3 l = rw (lt-leb _ _ l)
 
   module _ (m : h.mode ≤ mode_save_and_keep) where
-    pub judge_4 : Outside max_cards h.cards → within_limits h ≡ Refused 4
+    pub judge_4 : Outside max_cards h.cards → within_limits h ≡ Err 4
     unfolding within_limits
     judge_4 o = rw (le-leb _ _ m, outside _ _ o)
 
     module _ (c : Within max_cards h.cards) where
-      pub judge_5 : Outside max_pool h.pool → within_limits h ≡ Refused 5
+      pub judge_5 : Outside max_pool h.pool → within_limits h ≡ Err 5
       unfolding within_limits
       judge_5 o = rw (le-leb _ _ m, within _ _ c, outside _ _ o)
 
       module _ (p : Within max_pool h.pool) where
-        pub judge_6 : max_frames < h.frames → within_limits h ≡ Refused 6
+        pub judge_6 : max_frames < h.frames → within_limits h ≡ Err 6
         unfolding within_limits
         judge_6 l = rw (le-leb _ _ m, within _ _ c, within _ _ p, lt-leb _ _ l)
 
-        pub judge_accepts : h.frames ≤ max_frames → within_limits h ≡ Accepted h
+        pub judge_accepts : h.frames ≤ max_frames → within_limits h ≡ Ok h
         unfolding within_limits
         judge_accepts l = rw (le-leb _ _ m, within _ _ c, within _ _ p, le-leb _ _ l)
 
-  pub edition_refused : (Known h.edition → ⊥) → header_answer h ≡ Refused 2
+  pub edition_refused : (Known h.edition → ⊥) → header_answer h ≡ Err 2
   unfolding header_answer
   edition_refused n = rw (not_known h.edition n)
 
@@ -66,7 +65,7 @@ module _ (h : Header) where
   edition_passes k = rw (known_is h.edition k)
 
 module _ (t : List ℕ) where
-  pub heading_1 : is_line t 0 header_digits ≡ false → heading t ≡ Refused 1
+  pub heading_1 : is_line t 0 header_digits ≡ false → heading t ≡ Err 1
   unfolding heading
   heading_1 e = rw e
 
@@ -74,7 +73,7 @@ module _ (t : List ℕ) where
   unfolding heading
   heading_of e = rw e
 
-  pub heading_2 : is_line t 0 header_digits ≡ true → (Known (edition_of t) → ⊥) → heading t ≡ Refused 2
+  pub heading_2 : is_line t 0 header_digits ≡ true → (Known (edition_of t) → ⊥) → heading t ≡ Err 2
   heading_2 e n = heading_of e ∙ edition_refused (header_of t) n
 
   pub heading_passes : is_line t 0 header_digits ≡ true → Known (edition_of t) → heading t ≡ within_limits (header_of t)
@@ -82,7 +81,7 @@ module _ (t : List ℕ) where
 
   -- the numbers that were read are the header's
   pub heading_read :
-      {r : Answer} {e m c p f : ℕ} → is_line t 0 header_digits ≡ true
+      {r : Result Header ℕ} {e m c p f : ℕ} → is_line t 0 header_digits ≡ true
       → e ≡ number t 0 2 → m ≡ number t 2 2 → c ≡ number t 4 2 → p ≡ number t 6 4
       → f ≡ number t 10 4 → r ≡ header_answer (record { edition = e; mode = m; cards = c; pool = p; frames = f }) → r ≡ heading t
   unfolding header_of

@@ -5,8 +5,7 @@ use Rattle.text.specs.Text.{number, is_line}
 use Rattle.header.specs.Editions.{known}
 use Rattle.header.specs.Limits.{mode_save_and_keep, max_cards, max_pool, max_frames}
 use Rattle.header.specs.declared.Header.{Header}
-use Rattle.header.specs.declared.Answer.{Answer}
-use Rattle.header.specs.declared.Answer.TheVariants.{Accepted, Refused}
+use Rattle.std.specs.Prelude.{Result, Ok, Err}
 
 -- "The header has 14 digits", and an end byte.
 abbrev pub header_digits : ℕ
@@ -28,20 +27,20 @@ unfoldable pub low_edition : List ℕ → ℕ
 low_edition t = cond (ltb (edition_of t) 10) (edition_of t) 0
 
 -- Refusals 3 to 6.
-unfoldable pub within_limits : Header → Answer
+unfoldable pub within_limits : Header → Result Header ℕ
 within_limits h =
     cond (leb h.mode mode_save_and_keep)
     (cond (leb 1 h.cards && leb h.cards max_cards)
     (cond (leb 1 h.pool && leb h.pool max_pool)
-    (cond (leb h.frames max_frames) (Accepted h) (Refused 6))
-    (Refused 5))
-    (Refused 4))
-    (Refused 3)
+    (cond (leb h.frames max_frames) (Ok h) (Err 6))
+    (Err 5))
+    (Err 4))
+    (Err 3)
 
 -- Refusals 2 to 6.
-unfoldable pub header_answer : Header → Answer
-header_answer h = cond (known h.edition) (within_limits h) (Refused 2)
+unfoldable pub header_answer : Header → Result Header ℕ
+header_answer h = cond (known h.edition) (within_limits h) (Err 2)
 
 -- Refusals 1 to 6.
-unfoldable pub heading : List ℕ → Answer
-heading t = cond (is_line t 0 header_digits) (header_answer (header_of t)) (Refused 1)
+unfoldable pub heading : List ℕ → Result Header ℕ
+heading t = cond (is_line t 0 header_digits) (header_answer (header_of t)) (Err 1)

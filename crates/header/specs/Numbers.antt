@@ -2,8 +2,7 @@
 -- Assumes nothing.
 use Rattle.std.specs.Prelude.{ℕ}
 use Rattle.header.specs.declared.Header.{Header}
-use Rattle.header.specs.declared.Answer.{Answer}
-use Rattle.header.specs.declared.Answer.TheVariants.{Accepted, Refused}
+use Rattle.std.specs.Prelude.{Result, Ok, Err}
 
 -- The refusal's number, 0 for none; and what stands in the header, all 0 beside a refusal.
 pub record Numbers : Type 0 where
@@ -21,6 +20,6 @@ accepted_as h = record { refusal = 0; edition = h.edition; mode = h.mode; cards 
 abbrev pub refused_by : ℕ → Numbers
 refused_by k = record { refusal = k; edition = 0; mode = 0; cards = 0; pool = 0; frames = 0 }
 
-abbrev pub numbers_of : Answer → Numbers
-numbers_of (Accepted h) = accepted_as h
-numbers_of (Refused k) = refused_by k
+abbrev pub numbers_of : Result Header ℕ → Numbers
+numbers_of (Ok h) = accepted_as h
+numbers_of (Err k) = refused_by k

@@ -14,8 +14,7 @@ use Rattle.hub.specs.Fullest.{Gathering}
 use Rattle.hub.specs.Gather.{hub_cards, Outcome, gathered, turned_down, gather_of, answer_of, leaves, buffer_after, Answered}
 use Rattle.hub.specs.Grounds.{Fits, none}
 use Rattle.hub.specs.Numbers.{numbers_of}
-use Rattle.hub.specs.declared.Answer.{Answer}
-use Rattle.hub.specs.declared.Answer.TheVariants.{Gathered, Refused}
+use Rattle.std.specs.Prelude.{Result, Ok, Err}
 use Rattle.hub.proofs.Even.{inside_hub}
 use Rattle.hub.proofs.Fullest as fullest
 use Rattle.hub.proofs.Refusals.{as_many, low_cameras, known_is, says_only, refused_is, no_ground}
@@ -25,20 +24,20 @@ module _ (chosen cameras before : List ℕ) where
   outcome = gather_of chosen cameras (length before)
 
   -- a refusal leaves the buffer
-  kept : (o : Outcome) (k : ℕ) → Refused k ≡ answer_of o → before ≡ leaves o before
+  kept : (o : Outcome) (k : ℕ) → Err k ≡ answer_of o → before ≡ leaves o before
   unfolding answer_of leaves
   kept (gathered cards) k e = let z : ◌≡◌ {A = ℕ} 0 1 = cc in absurd (omega arith)
   kept (turned_down j) k e = refl
 
-  pub call_refused : (k : ℕ) → k ≡ (numbers_of (answer_of outcome)).refusal → (k ≡ 0 → ⊥) → Answered chosen cameras before before (Refused k)
+  pub call_refused : (k : ℕ) → k ≡ (numbers_of (answer_of outcome)).refusal → (k ≡ 0 → ⊥) → Answered chosen cameras before before (Err k)
   call_refused k e n =
       let answer = refused_is chosen cameras (length before) k e n in
       record { answer = answer; buffer = kept outcome k answer }
 
   -- with no ground the cards are given
   module _ (f : Fits chosen cameras (length before)) where
-    answer_is : Gathered (length cameras) ≡ answer_of outcome
-    answer_is = says_only chosen cameras (length before) (Gathered (length cameras)) (none f)
+    answer_is : Ok (length cameras) ≡ answer_of outcome
+    answer_is = says_only chosen cameras (length before) (Ok (length cameras)) (none f)
 
     buffer_is : buffer_after chosen cameras before ≡ written (hub_cards chosen cameras) before
     unfolding gather_of leaves
@@ -52,17 +51,17 @@ module _ (chosen cameras before : List ℕ) where
         )
 
     pub call_gathered :
-        (after : List ℕ) → after ≡ written (hub_cards chosen cameras) before → Answered chosen cameras before after (Gathered (length cameras))
+        (after : List ℕ) → after ≡ written (hub_cards chosen cameras) before → Answered chosen cameras before after (Ok (length cameras))
     call_gathered after e = record { answer = answer_is; buffer = e ∙ sym buffer_is }
 
   -- the promises about a call
-  module _ (after : List ℕ) (r : Answer) (a : Answered chosen cameras before after r) where
+  module _ (after : List ℕ) (r : Result ℕ ℕ) (a : Answered chosen cameras before after r) where
     ground_free : (numbers_of r).refusal ≡ 0 → Fits chosen cameras (length before)
-    ground_free z = no_ground chosen cameras (length before) (sym z ∙ ap (λ (x : Answer). (numbers_of x).refusal) a.answer)
+    ground_free z = no_ground chosen cameras (length before) (sym z ∙ ap (λ (x : Result ℕ ℕ). (numbers_of x).refusal) a.answer)
 
     frames_are : (numbers_of r).refusal ≡ 0 → (numbers_of r).frames ≡ length (hub_cards chosen cameras)
     frames_are z =
-        ap (λ (x : Answer). (numbers_of x).frames) (a.answer ∙ sym (answer_is (ground_free z))) ∙ sym (as_many chosen cameras)
+        ap (λ (x : Result ℕ ℕ). (numbers_of x).frames) (a.answer ∙ sym (answer_is (ground_free z))) ∙ sym (as_many chosen cameras)
 
     front_is : (numbers_of r).refusal ≡ 0 → take (numbers_of r).frames after ≡ hub_cards chosen cameras
     front_is z =

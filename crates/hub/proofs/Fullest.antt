@@ -17,7 +17,7 @@ use Rattle.ticket.specs.Ticket.{Parsed, accepted, refused, parse}
 use Rattle.planner.specs.Plan.{plan_of, buffer_after}
 use Rattle.planner.specs.Numbers.{numbers_of}
 use Rattle.planner.specs.Demand3.{Demand3}
-use Rattle.planner.specs.declared.Answer.TheVariants.{Planned}
+use Rattle.std.specs.Prelude.{Ok}
 use Rattle.planner.proofs.Main.{demand_3}
 use Rattle.hub.specs.Fullest.{ReadOrSave, TakesFullest}
 use Rattle.hub.specs.Gather.{hub_cards}
@@ -78,12 +78,12 @@ module _ (chosen cameras : List ℕ) (known : Known chosen) (seen : Seen chosen 
           rw long at (demand_fullest _ _ _ d there).1
 
       -- which is a plan
-      is_planned : plan_of (parse text) places ≡ Planned (numbers_of (plan_of (parse text) places)).cycles
+      is_planned : plan_of (parse text) places ≡ Ok (numbers_of (plan_of (parse text) places)).cycles
       unfolding plan_of
       is_planned = rw (e, le-ltb places (length cards) enough)
 
-      pub plan_fullest : plan_of (parse text) places ≡ Planned (record { 0 = fullest hub_size cards })
-      plan_fullest = is_planned ∙ ap (λ (T : ℕ). Planned (record { 0 = T })) T-answered
+      pub plan_fullest : plan_of (parse text) places ≡ Ok (record { 0 = fullest hub_size cards })
+      plan_fullest = is_planned ∙ ap (λ (T : ℕ). Ok (record { 0 = T })) T-answered
 
   pub takes_fullest : TakesFullest S cards
   takes_fullest = record { exactly = plan_fullest; at_most = even_bound hub_size S cards low (even_first chosen cameras known seen) }

@@ -17,7 +17,7 @@ use Rattle.hub.specs.Gather.{hub_cards, answer_for, Answered}
 use Rattle.hub.specs.Grounds.{Known, Seen, Says}
 use Rattle.hub.specs.Numbers.{numbers_of}
 use Rattle.hub.specs.Patterns.{hub_size, pattern_card, NamesEvery, visits}
-use Rattle.hub.specs.declared.Answer.{Answer}
+use Rattle.std.specs.Prelude.{Result}
 use Rattle.hub.proofs.Calls as calls
 use Rattle.hub.proofs.Cases as table
 use Rattle.hub.proofs.Even as even
@@ -32,12 +32,12 @@ module _ (chosen cameras : List ℕ) (places : ℕ) where
   pub gather_says : Says chosen cameras places (answer_for chosen cameras places)
   gather_says = refusals.says chosen cameras places
 
-  pub gather_only : (r : Answer) → Says chosen cameras places r → r ≡ answer_for chosen cameras places
+  pub gather_only : (r : Result ℕ ℕ) → Says chosen cameras places r → r ≡ answer_for chosen cameras places
   gather_only = refusals.says_only chosen cameras places
 
 -- Every answer that equals the definitions of specs/Gather.antt, for whichever patterns, cameras and buffer, keeps the request's promises about the cards
 -- that now stand in the buffer.
-pub gather_keeps : (chosen cameras before after : List ℕ) (r : Answer) → Answered chosen cameras before after r
+pub gather_keeps : (chosen cameras before after : List ℕ) (r : Result ℕ ℕ) → Answered chosen cameras before after r
     → Gathering chosen (numbers_of r).refusal (numbers_of r).frames after
 gather_keeps = calls.gathering
 

@@ -24,25 +24,6 @@ pub record Ready (chosen : List ℕ) (n : ℕ) (words : List ℕ) : Type 0 where
   pub so_many : length words ≡ max_cameras
   pub each : (q : ℕ) → q < n → get_or words q 0 ≡ word_at (pattern_of chosen q) 0
 
-pub ready_next :
-    (chosen : List ℕ) (n : ℕ) (words : List ℕ) (x : ℕ) → n < max_cameras → Ready chosen n words → x ≡ word_at (pattern_of chosen n) 0
-    → Ready chosen (n + 1) (set words n x)
-ready_next chosen n words x l r e =
-    record {
-      so_many = length-set words n x ∙ r.so_many;
-      each = λ q h.
-          elim (ℕ_discrete q n) [
-            | yes same ↦ rw same (get_or-set_same words n x 0 (omega (arith, r.so_many)) ∙ e)
-            | no other ↦ get_or-set_other words n q x 0 other ∙ r.each q (omega arith)
-          ];
-    }
-
--- one frame more of the same camera
-pub all_of_more :
-    (camera : ℕ) (cameras : List ℕ) (at n : ℕ) → AllOf camera cameras at n → camera_of cameras (at + n) ≡ camera → AllOf camera cameras at (n + 1)
-all_of_more camera cameras at n a e j l =
-    elim (ℕ_discrete j n) [ yes same ↦ rw same e | no other ↦ a j (omega arith) ]
-
 -- values of a function, written one after the other
 pub fill_all :
     (f : ℕ → ℕ) (m i : ℕ) (l : List ℕ) → i + m ≤ length l

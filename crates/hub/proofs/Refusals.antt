@@ -16,8 +16,7 @@ use Rattle.hub.specs.Gather.{max_cameras, camera_of, card_for, hub_cards, known_
 use Rattle.hub.specs.Grounds.{Known, Seen, Fits, Says, row20, row6, row21, row10, none}
 use Rattle.hub.specs.Numbers.{numbers_of}
 use Rattle.hub.specs.Patterns.{hub_size}
-use Rattle.hub.specs.declared.Answer.{Answer}
-use Rattle.hub.specs.declared.Answer.TheVariants.{Gathered, Refused}
+use Rattle.std.specs.Prelude.{Result, Ok, Err}
 
 -- what the largest pattern and the largest camera number tell
 
@@ -45,13 +44,13 @@ module _ (chosen : List ℕ) where
 module _
     (chosen cameras : List ℕ) (places : ℕ) (some : 1 ≤ length chosen) (few : length chosen ≤ max_cameras) (low : largest chosen < hub_size)
     (short : length cameras ≤ max_frames) where
-  pub camera_row : length chosen ≤ largest cameras → Says chosen cameras places (Refused 21)
+  pub camera_row : length chosen ≤ largest cameras → Says chosen cameras places (Err 21)
   camera_row high = let unseen = not_seen chosen cameras some high in row21 (known_from chosen some few low) short unseen.0 unseen.1 unseen.2
 
-  pub room_row : largest cameras < length chosen → places < length cameras → Says chosen cameras places (Refused 10)
+  pub room_row : largest cameras < length chosen → places < length cameras → Says chosen cameras places (Err 10)
   room_row seen less = row10 (known_from chosen some few low) short (seen_from chosen cameras seen) less
 
-  pub no_row : largest cameras < length chosen → length cameras ≤ places → Says chosen cameras places (Gathered (length cameras))
+  pub no_row : largest cameras < length chosen → length cameras ≤ places → Says chosen cameras places (Ok (length cameras))
   no_row seen room = none (record { known = known_from chosen some few low; few = short; seen = seen_from chosen cameras seen; room = room })
 
 -- the tests of the definition
@@ -86,11 +85,11 @@ unfolding hub_cards
 as_many chosen cameras = length_tabulate (length cameras) (card_for chosen cameras)
 
 module _ (chosen cameras : List ℕ) (places : ℕ) where
-  abbrev answer : Answer
+  abbrev answer : Result ℕ ℕ
   answer = answer_for chosen cameras places
 
   -- a row's answer is the call's
-  pub says_only : (r : Answer) → Says chosen cameras places r → r ≡ answer
+  pub says_only : (r : Result ℕ ℕ) → Says chosen cameras places r → r ≡ answer
   unfolding gather_of answer_of
   says_only r (row20 n) = rw (unknown_is chosen n)
   says_only r (row6 k long) = rw (known_is chosen k, lt-ltb max_frames (length cameras) long)
@@ -135,28 +134,28 @@ module _ (chosen cameras : List ℕ) (places : ℕ) where
       (λ e. found (no_row chosen cameras places k.count.0 k.count.1 low short seen (ltb-false places (length cameras) e))))))
       (λ a. found (row20 (λ k. true≢false (sym (known_is chosen k) ∙ a))))
     where
-      found : {r : Answer} → Says chosen cameras places r → Says chosen cameras places answer
+      found : {r : Result ℕ ℕ} → Says chosen cameras places r → Says chosen cameras places answer
       found {r} s = rw (sym (says_only r s)) s
 
   -- its number
-  pub number_says : (r : Answer) → Says chosen cameras places r → (numbers_of r).refusal ≡ (numbers_of answer).refusal
-  number_says r s = ap (λ (x : Answer). (numbers_of x).refusal) (says_only r s)
+  pub number_says : (r : Result ℕ ℕ) → Says chosen cameras places r → (numbers_of r).refusal ≡ (numbers_of answer).refusal
+  number_says r s = ap (λ (x : Result ℕ ℕ). (numbers_of x).refusal) (says_only r s)
 
-  pub refused_is : (k : ℕ) → k ≡ (numbers_of answer).refusal → (k ≡ 0 → ⊥) → Refused k ≡ answer
+  pub refused_is : (k : ℕ) → k ≡ (numbers_of answer).refusal → (k ≡ 0 → ⊥) → Err k ≡ answer
   refused_is k e n = go answer says e
     where
-      go : (r : Answer) → Says chosen cameras places r → k ≡ (numbers_of r).refusal → Refused k ≡ r
-      go r (row20 _) e = ap Refused e
-      go r (row6 _ _) e = ap Refused e
-      go r (row21 _ _ _ _ _) e = ap Refused e
-      go r (row10 _ _ _ _) e = ap Refused e
+      go : (r : Result ℕ ℕ) → Says chosen cameras places r → k ≡ (numbers_of r).refusal → Err k ≡ r
+      go r (row20 _) e = ap Err e
+      go r (row6 _ _) e = ap Err e
+      go r (row21 _ _ _ _ _) e = ap Err e
+      go r (row10 _ _ _ _) e = ap Err e
       go r (none _) e = absurd (n e)
 
   -- with no refusal there was no ground
   pub no_ground : 0 ≡ (numbers_of answer).refusal → Fits chosen cameras places
   no_ground e = go answer says e
     where
-      go : (r : Answer) → Says chosen cameras places r → 0 ≡ (numbers_of r).refusal → Fits chosen cameras places
+      go : (r : Result ℕ ℕ) → Says chosen cameras places r → 0 ≡ (numbers_of r).refusal → Fits chosen cameras places
       go r (row20 _) e = absurd (omega arith)
       go r (row6 _ _) e = absurd (omega arith)
       go r (row21 _ _ _ _ _) e = absurd (omega arith)

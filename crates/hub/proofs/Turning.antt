@@ -1,49 +1,51 @@
 -- A pattern's word: its lowest byte is the next card, turned by one byte it stands at the next place, and its bytes are the eight cards from there on.
 -- Assumes nothing.
-use Prim.Native.Nat.{ℕ, zero, suc, ◌+◌, ◌-◌, ◌*◌, ◌/◌, ◌%◌, ◌^◌, ◌<◌}
+use Prim.Native.Nat.{ℕ, zero, suc, ◌+◌, ◌*◌, ◌/◌, ◌%◌, ◌^◌, ◌≤◌, ◌<◌}
 use mathlib.Core.Path.{◌≡◌, refl, sym, ap, ◌∙◌}
-use mathlib.Core.List.{List, [], ◌∷◌}
+use mathlib.Core.List.{List, [], ◌∷◌, append_assoc}
 use native.Mathlib.Omega.{arith}
 use native.Mathlib.Nat.{add-zero, zero-mul, add-mul, mul_assoc, pow-suc}
-use lib.ListN.{get_or, set}
-use lib.Seq.{sets}
+use lib.Bits.{bit_and, and_block, and_zero_r}
+use lib.ListN.{length, take, drop}
+use lib.Seq.{sets, sets-eq, drop-drop}
+use borrow.Rule.Slice.PartMut.{put_mid}
+use Rattle.std.specs.Int.{w64, from_le_bytes, to_le_bytes, rotate_right}
+use Rattle.std.proofs.lemmas.Nat.{or_disjoint}
 use Rattle.counting.specs.Count.{sum}
 use Rattle.counting.proofs.Sums.{sum_cong, sum_front}
 use Rattle.hub.specs.Patterns.{hub_size, pattern_row, pattern_card}
-use Rattle.hub.specs.Words.{word_at, word_in, turn, low_bytes}
+use Rattle.hub.specs.Words.{word_at, turn, low_bytes}
 
--- the eight bytes from a place on, in two halves
-pub eight_is :
-    (s : List ℕ) (at low high word : ℕ)
-    → low ≡ get_or s at 0 + 256 * (get_or s (at + 1) 0 + 256 * (get_or s (at + 2) 0 + 256 * get_or s (at + 3) 0))
-    → high ≡ get_or s (at + 4) 0 + 256 * (get_or s (at + 5) 0 + 256 * (get_or s (at + 6) 0 + 256 * get_or s (at + 7) 0))
-    → word ≡ low + 4294967296 * high → word ≡ word_in s at
+-- the library's words for a pattern's word, for a word turned by one byte, and for its eight bytes
+pub word_is : (p : ℕ) → from_le_bytes w64 (pattern_row p) ≡ word_at (pattern_card p) 0
 unfolding word_at
-eight_is s at low high word a b f = omega (arith, ap (λ (x : ℕ). get_or s x 0) (add-zero at))
+word_is p = omega arith
 
--- the row of a pattern, from its first place on
-pub first_place : (p : ℕ) → word_in (pattern_row p) 0 ≡ word_at (pattern_card p) 0
-unfolding word_at
-first_place p = refl
+pub turn_is : (word : ℕ) → word < 18446744073709551616 → rotate_right w64 word 8 ≡ turn word
+turn_is word h =
+    let high : word * 72057594037927936 % 18446744073709551616 ≡ word % 256 * 72057594037927936 = omega arith in
+    let low : word / 256 < 72057594037927936 = omega arith in
+    let x : 0 * 72057594037927936 + word / 256 ≡ word / 256 = omega arith in
+    let y : word % 256 * 72057594037927936 + 0 ≡ word % 256 * 72057594037927936 = omega arith in
+    let apart : bit_and (word / 256) (word % 256 * 72057594037927936) ≡ 0 =
+    rw (x, y) at (and_block 56 0 (word % 256) (word / 256) 0 low (omega arith)) ∙ omega (arith, and_zero_r (word / 256)) in
+    rw high (or_disjoint (word / 256) (word % 256 * 72057594037927936) apart)
 
--- a word that is turned fits
-half_fits : (q r : ℕ) → q < 72057594037927936 → r < 256 → q + r * 72057594037927936 < 18446744073709551616
-half_fits q r h l = omega arith
+pub eight_bytes : (word : ℕ) → to_le_bytes w64 word ≡ low_bytes 8 word
+eight_bytes word =
+    let b2 : word / 256 / 256 % 256 ≡ word / 65536 % 256 = omega arith in
+    let b3 : word / 256 / 256 / 256 % 256 ≡ word / 16777216 % 256 = omega arith in
+    let b4 : word / 256 / 256 / 256 / 256 % 256 ≡ word / 4294967296 % 256 = omega arith in
+    let b5 : word / 256 / 256 / 256 / 256 / 256 % 256 ≡ word / 1099511627776 % 256 = omega arith in
+    let b6 : word / 256 / 256 / 256 / 256 / 256 / 256 % 256 ≡ word / 281474976710656 % 256 = omega arith in
+    let b7 : word / 256 / 256 / 256 / 256 / 256 / 256 / 256 % 256 ≡ word / 72057594037927936 % 256 = omega arith in
+    rw (b2, b3, b4, b5, b6, b7)
 
-pub turn_fits : (word : ℕ) → word < 18446744073709551616 → turn word < 18446744073709551616
-turn_fits word h = half_fits (word / 256) (word % 256) (omega arith) (omega arith)
-
--- bytes that are put one after the other
-pub byte_put :
-    (out : List ℕ) (at j rest : ℕ) → j < 8
-    → sets (set out (at + j) (rest % 256)) (at + (j + 1)) (low_bytes (8 - (j + 1)) (rest / 256)) ≡ sets out (at + j) (low_bytes (8 - j) rest)
-byte_put out at j rest l =
-    let one : 8 - j ≡ suc (8 - (j + 1)) = omega arith in
-    let next : at + (j + 1) ≡ suc (at + j) = omega arith in
-    rw (one, next)
-
-pub all_put : (out : List ℕ) (at j rest : ℕ) → j ≡ 8 → sets out (at + j) (low_bytes (8 - j) rest) ≡ out
-all_put out at j rest e = rw e
+-- a part of a list that is copied over is a run of stores
+pub part_put :
+    (at n : ℕ) (l part values : List ℕ) → part ≡ values → n ≡ length values → at + length values ≤ length l → put_mid at n l part ≡ sets l at values
+part_put at n l part values e f h =
+    rw (e, f, sets-eq values l at h, drop-drop) (sym (append_assoc (take at l) values (drop (at + length values) l)))
 
 -- the lowest byte of a number, and the others
 low_byte : (b rest : ℕ) → b < 256 → (b + rest * 256) % 256 ≡ b

@@ -9,7 +9,7 @@ use Rattle.header.specs.declared.Header.{Header}
 use Rattle.ticket.specs.Print.{ticket_text}
 use Rattle.ticket.specs.Ticket.{accepted, parse}
 use Rattle.planner.specs.Plan.{plan_of}
-use Rattle.planner.specs.declared.Answer.TheVariants.{Planned}
+use Rattle.std.specs.Prelude.{Ok}
 use Rattle.hub.specs.Patterns.{hub_size}
 
 -- "both read and full save"
@@ -29,7 +29,7 @@ pub record TakesFullest (S : ℕ) (cards : List ℕ) : Type 0 where
   -- for every ticket, of whichever text, that has this list and such a pool, with every buffer that has a place for each frame.
   pub exactly :
       (text : List ℕ) (h : Header) → parse text ≡ accepted h cards → ReadOrSave h → 7 * S < h.pool
-      → (places : ℕ) → length cards ≤ places → plan_of (parse text) places ≡ Planned (record { 0 = fullest hub_size cards })
+      → (places : ℕ) → length cards ≤ places → plan_of (parse text) places ≡ Ok (record { 0 = fullest hub_size cards })
   -- "and 8 × T is at most L + 7 × S"
   pub at_most : 8 * fullest hub_size cards ≤ length cards + 7 * S
 

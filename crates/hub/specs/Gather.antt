@@ -8,8 +8,7 @@ use Rattle.std.specs.Prelude.{ℕ, ◌%◌, ◌≡◌, Bool, ◌&&◌, cond, Lis
 use Rattle.counting.specs.Count.{how_many, tabulate, largest, written}
 use Rattle.header.specs.Limits.{max_frames}
 use Rattle.hub.specs.Patterns.{hub_size, pattern_card}
-use Rattle.hub.specs.declared.Answer.{Answer}
-use Rattle.hub.specs.declared.Answer.TheVariants.{Gathered, Refused}
+use Rattle.std.specs.Prelude.{Result, Ok, Err}
 
 -- "1 to 6 cameras"
 abbrev pub max_cameras : ℕ
@@ -57,12 +56,12 @@ gather_of chosen cameras places =
     (turned_down 20)
 
 -- What the call answers: how many cards it gave, or the number.
-unfoldable pub answer_of : Outcome → Answer
-answer_of (gathered cards) = Gathered (length cards)
-answer_of (turned_down k) = Refused k
+unfoldable pub answer_of : Outcome → Result ℕ ℕ
+answer_of (gathered cards) = Ok (length cards)
+answer_of (turned_down k) = Err k
 
 -- what a call answers, with a buffer of so many places
-abbrev pub answer_for : List ℕ → List ℕ → ℕ → Answer
+abbrev pub answer_for : List ℕ → List ℕ → ℕ → Result ℕ ℕ
 answer_for chosen cameras places = answer_of (gather_of chosen cameras places)
 
 -- What it leaves in the buffer: "places past the list are kept"; a refusal changes nothing.
@@ -74,6 +73,6 @@ abbrev pub buffer_after : List ℕ → List ℕ → List ℕ → List ℕ
 buffer_after chosen cameras before = leaves (gather_of chosen cameras (length before)) before
 
 -- What one call did: the answer and the buffer, both equal to the definitions above.
-pub record Answered (chosen cameras before after : List ℕ) (r : Answer) : Type 0 where
+pub record Answered (chosen cameras before after : List ℕ) (r : Result ℕ ℕ) : Type 0 where
   pub answer : r ≡ answer_for chosen cameras (length before)
   pub buffer : after ≡ buffer_after chosen cameras before

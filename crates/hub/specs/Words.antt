@@ -11,10 +11,6 @@ use Rattle.hub.specs.Patterns.{hub_size}
 unfoldable pub word_at : (ℕ → ℕ) → ℕ → ℕ
 word_at card k = sum hub_size (λ j. card ((k + j) % hub_size) * 256 ^ j)
 
--- the eight bytes of a list from place `at` on
-abbrev pub word_in : List ℕ → ℕ → ℕ
-word_in s at = word_at (λ k. get_or s (at + k) 0) 0
-
 -- a word turned by one byte
 abbrev pub turn : ℕ → ℕ
 turn word = word / 256 + word % 256 * 72057594037927936

@@ -2,6 +2,7 @@
 #![tactic(auto)]
 
 ghost use Rattle.std.specs.Prelude.{◌≡◌, true, ◌+◌, ◌≤◌, length};
+ghost use Rattle.refusals.specs.Numbers.{told, number_in};
 ghost use Rattle.counting.specs.Count.{largest, written};
 ghost use Rattle.hub.specs.Fullest.{Gathering};
 ghost use Rattle.hub.specs.Gather.{hub_cards, answer_for, buffer_after};
@@ -12,59 +13,43 @@ ghost use Rattle.hub.specs.Words.{Places, Inside, AllOf};
 
 use header::limits;
 use patterns::{CAMERAS, SIZE};
+use refusals::Refusal;
 
 mod patterns;
 mod words;
-
-// So many cards given, or the number of a refusal.
-#[derive(Clone, Copy)]
-pub enum Answer {
-    Gathered(u16),
-    Refused(u8),
-}
 
 // The largest of some numbers, 0 for none.
 fn largest(numbers: &[u8]) -> u8
     ensures { result ≡ largest numbers.now }
 {
-    let n = numbers.len();
-    let mut top: u8 = 0;
-    let mut i: usize = 0;
-    while i < n {
-        let x = numbers[i];
-        i += 1;
-        if top < x {
-            top = x;
-        }
-    }
-    top
+    numbers.iter().copied().max().unwrap_or(0)
 }
 
-// The number of the refusal, with a buffer of so many places: 20, then 6, then 21, then 10; 0 for none.
-fn refusal(chosen: &[u8], cameras: &[u8], places: usize) -> u8
-    ensures { result ≡ (numbers_of (answer_for chosen.now cameras.now places)).refusal }
+// Whether a call is refused, with a buffer of so many places: 20, then 6, then 21, then 10.
+fn refused(chosen: &[u8], cameras: &[u8], places: usize) -> Result<(), Refusal>
+    ensures { number_in result ≡ (numbers_of (answer_for chosen.now cameras.now places)).refusal }
 {
     let count = chosen.len();
     let frames = cameras.len();
     if count < 1 {
-        return 20;
+        return Err(Refusal::HubSetUp);
     }
     if CAMERAS < count {
-        return 20;
+        return Err(Refusal::HubSetUp);
     }
-    if SIZE <= patterns::index(largest(chosen)) {
-        return 20;
+    if SIZE <= usize::from(largest(chosen)) {
+        return Err(Refusal::HubSetUp);
     }
     if limits::FRAMES < frames {
-        return 6;
+        return Err(Refusal::TooManyFrames);
     }
-    if count <= patterns::index(largest(cameras)) {
-        return 21;
+    if count <= usize::from(largest(cameras)) {
+        return Err(Refusal::NoSuchCamera);
     }
     if places < frames {
-        return 10;
+        return Err(Refusal::NoRoom);
     }
-    0
+    Ok(())
 }
 
 // Writes the cards of the frames from one place of the list up to another, frame by frame: a camera's next card is the lowest byte of its word, which then
@@ -73,13 +58,11 @@ fn place_each(cameras: &[u8], from: usize, to: usize, words: &mut [u64; CAMERAS]
     requires { Inside cameras.now from to (length cards.old) }
     ensures { Places cameras.now from to words.old cards.old words.new cards.new }
 {
-    let mut i = from;
-    while i < to {
-        let camera = patterns::index(cameras[i]);
+    for i in from..to {
+        let camera = usize::from(cameras[i]);
         let word = words[camera];
         cards[i] = (word % 256) as u8;
         words[camera] = words::turned(word);
-        i += 1;
     }
 }
 
@@ -88,12 +71,10 @@ fn all_of(camera: u8, cameras: &[u8], at: usize) -> bool
     requires { at + 8 ≤ length cameras.now }
     ensures { (result ≡ true → AllOf camera cameras.now at hub_size) × (AllOf camera cameras.now at hub_size → result ≡ true) }
 {
+    // Faster than `all`: with no early end the compiler compares four frames at once.
     let mut same = true;
-    let mut j: usize = 0;
-    while j < SIZE {
-        let other = cameras[at + j];
-        j += 1;
-        if other != camera {
+    for other in &cameras[at..at + SIZE] {
+        if *other != camera {
             same = false;
         }
     }
@@ -108,32 +89,27 @@ fn place(chosen: &[u8], cameras: &[u8], cards: &mut [u8])
 {
     let n = cameras.len();
     let mut words = patterns::words_of(chosen);
-    let mut i: usize = 0;
-    while SIZE <= n - i {
-        let at = i;
+    for block in 0..n / SIZE {
+        let at = SIZE * block;
         let camera = cameras[at];
-        i += SIZE;
         if all_of(camera, cameras, at) {
-            words::put_eight(cards, at, words[patterns::index(camera)]);
+            words::put_eight(cards, at, words[usize::from(camera)]);
         } else {
-            place_each(cameras, at, i, &mut words, cards);
+            place_each(cameras, at, at + SIZE, &mut words, cards);
         }
     }
-    place_each(cameras, i, n, &mut words, cards);
+    place_each(cameras, n - n % SIZE, n, &mut words, cards);
 }
 
 // Gathers a list of frames, given by the camera of each: writes their cards over the front of the buffer; later places keep their content.
 // `chosen` has the pattern of each camera. A refusal changes nothing. `fullest` is what request 2026-06 promises of the cards that now stand there.
-pub fn gather(chosen: &[u8], cameras: &[u8], cards: &mut [u8]) -> Answer
-    ensures answer { result ≡ answer_for chosen.now cameras.now (length cards.old) }
+pub fn gather(chosen: &[u8], cameras: &[u8], cards: &mut [u8]) -> Result<u16, Refusal>
+    ensures answer { told result ≡ answer_for chosen.now cameras.now (length cards.old) }
     ensures buffer { cards.new ≡ buffer_after chosen.now cameras.now cards.old }
-    ensures numbers { numbers_of result ≡ numbers_of (answer_for chosen.now cameras.now (length cards.old)) }
-    ensures fullest { Gathering chosen.now (numbers_of result).refusal (numbers_of result).frames cards.new }
+    ensures numbers { numbers_of (told result) ≡ numbers_of (answer_for chosen.now cameras.now (length cards.old)) }
+    ensures fullest { Gathering chosen.now (numbers_of (told result)).refusal (numbers_of (told result)).frames cards.new }
 {
-    let number = refusal(chosen, cameras, cards.len());
-    if number != 0 {
-        return Answer::Refused(number);
-    }
+    refused(chosen, cameras, cards.len())?;
     place(chosen, cameras, cards);
-    Answer::Gathered(cameras.len() as u16)
+    Ok(cameras.len() as u16)
 }

@@ -22,13 +22,6 @@ const PATTERNS: [[u8; SIZE]; SIZE] = [
     [4, 3, 2, 1, 0, 7, 6, 5],
 ];
 
-// A camera or a pattern as the place of a table.
-pub(crate) fn index(number: u8) -> usize
-    ensures { result ≡ number }
-{
-    number as usize
-}
-
 // The cards at the places of a pattern.
 fn row(pattern: usize) -> [u8; SIZE]
     requires { pattern < hub_size }
@@ -42,8 +35,7 @@ fn word(pattern: usize) -> u64
     requires { pattern < hub_size }
     ensures { result ≡ word_at (pattern_card pattern) 0 }
 {
-    let card = row(pattern);
-    crate::words::eight_at(&card, 0)
+    u64::from_le_bytes(row(pattern))
 }
 
 // The pattern of each camera; places past the cameras are 0.
@@ -51,12 +43,9 @@ pub(crate) fn words_of(chosen: &[u8]) -> [u64; CAMERAS]
     requires { Known chosen.now }
     ensures { Words chosen.now result }
 {
-    let n = chosen.len();
     let mut words = [0u64; CAMERAS];
-    let mut q: usize = 0;
-    while q < n {
-        words[q] = word(index(chosen[q]));
-        q += 1;
+    for (q, pattern) in chosen.iter().enumerate() {
+        words[q] = word(usize::from(*pattern));
     }
     words
 }

@@ -9,20 +9,26 @@ mod report;
 mod rules;
 mod tickets;
 
+use lists::Lists;
+use report::Counts;
 use std::io;
 
 // For so many cameras, all lists of a number of frames from one up to another, in runs of so many of one camera, each with so many choices of patterns.
 fn main(rt: HostRuntime) -> io::Result<()> {
-    let mut counts = [0u64; 32];
+    let mut counts = Counts::default();
     report::heading(&rt)?;
-    compare::compare_all(&rt, &mut counts, 1, 0, 24, 1, 8)?;
-    compare::compare_all(&rt, &mut counts, 2, 0, 12, 1, 64)?;
-    compare::compare_all(&rt, &mut counts, 3, 0, 9, 1, 64)?;
-    compare::compare_all(&rt, &mut counts, 4, 0, 6, 1, 64)?;
-    compare::compare_all(&rt, &mut counts, 5, 0, 5, 1, 64)?;
-    compare::compare_all(&rt, &mut counts, 6, 0, 5, 1, 64)?;
-    compare::compare_all(&rt, &mut counts, 2, 16, 16, 1, 16)?;
-    compare::compare_all(&rt, &mut counts, 4, 24, 24, 4, 64)?;
-    compare::compare_all(&rt, &mut counts, 6, 24, 24, 8, 64)?;
-    report::summary(&rt, counts)
+    for lists in [
+        Lists::new(1, 0, 24, 1, 8),
+        Lists::new(2, 0, 12, 1, 64),
+        Lists::new(3, 0, 9, 1, 64),
+        Lists::new(4, 0, 6, 1, 64),
+        Lists::new(5, 0, 5, 1, 64),
+        Lists::new(6, 0, 5, 1, 64),
+        Lists::new(2, 16, 16, 1, 16),
+        Lists::new(4, 24, 24, 4, 64),
+        Lists::new(6, 24, 24, 8, 64),
+    ] {
+        compare::compare_all(&rt, &mut counts, lists)?;
+    }
+    report::summary(&rt, &counts)
 }

@@ -2,71 +2,56 @@
 ghost use Rattle.std.specs.Prelude.{◌<◌};
 
 use crate::lists::{CAMERAS, Case, FRAMES};
-use std::num::{wrapping_add_u64, wrapping_add_usize};
 
-// Two places more than the longest list has frames, and what stands in a place that has no card.
+// Two places more than the longest list has frames.
 pub(crate) const PLACES: usize = FRAMES + 2;
 
-pub(crate) const NO_CARD: u8 = b'.';
+// The byte in each place that is lent. A place without a card is to keep it, so the rules give bytes too: an Option would be turned into it again.
+pub(crate) const LENT: u8 = b'.';
 
-// "The eight patterns are fixed": the card at place k mod 8 of a pattern.
+// "The eight patterns are fixed": the card at each place of each pattern.
+const PATTERNS: [[u8; 8]; 8] = [
+    *b"01234567",
+    *b"03614725",
+    *b"05274163",
+    *b"07654321",
+    *b"45670123",
+    *b"47250361",
+    *b"41630527",
+    *b"43210765",
+];
+
+// The card at place k mod 8 of a pattern.
 fn card(pattern: u8, k: usize) -> u8 {
-    let patterns =
-        *b"01234567, 03614725, 05274163, 07654321, 45670123, 47250361, 41630527, 43210765";
-    patterns[10 * ((pattern % 8) as usize) + k % 8] % 16
+    PATTERNS[usize::from(pattern % 8)][k % 8] % 16
 }
 
 // How many frames before frame i are of its camera.
-fn earlier(cameras: [u8; FRAMES], i: usize) -> usize
+fn earlier(cameras: &[u8; FRAMES], i: usize) -> usize
     requires { i < 24 }
 {
     let camera = cameras[i];
-    let mut k: usize = 0;
-    let mut j: usize = 0;
-    while j < i {
-        if cameras[j] == camera {
-            k = wrapping_add_usize(k, 1);
-        }
-        j += 1;
-    }
-    k
+    cameras[..i]
+        .iter()
+        .filter(|other| **other == camera)
+        .count()
 }
 
-// "Frame k of a camera, from 0, goes to place k mod 8 of that camera's pattern." The places behind have no card.
-pub(crate) fn cards(c: Case, patterns: [u8; CAMERAS], cameras: [u8; FRAMES]) -> [u8; PLACES] {
-    let n = (c.frames % 25) as usize;
-    let mut places = [NO_CARD; PLACES];
-    let mut i: usize = 0;
-    while i < n {
-        let pattern = patterns[(cameras[i] % 6) as usize];
+// "Frame k of a camera, from 0, goes to place k mod 8 of that camera's pattern." The places behind stay as they are lent.
+pub(crate) fn cards(c: &Case, patterns: &[u8; CAMERAS], cameras: &[u8; FRAMES]) -> [u8; PLACES] {
+    let mut places = [LENT; PLACES];
+    for (i, camera) in cameras[..c.frame_count()].iter().enumerate() {
+        let pattern = patterns[usize::from(*camera % 6)];
         places[i] = card(pattern, earlier(cameras, i));
-        i += 1;
     }
     places
 }
 
 // How many frames a card has.
-fn load(places: [u8; PLACES], card: u8) -> u64 {
-    let mut frames: u64 = 0;
-    let mut i: usize = 0;
-    while i < PLACES {
-        if places[i] == card {
-            frames = wrapping_add_u64(frames, 1);
-        }
-        i += 1;
-    }
-    frames
+fn load(places: &[u8; PLACES], card: u8) -> usize {
+    places.iter().filter(|other| **other == card).count()
 }
 
-pub(crate) fn fullest(places: [u8; PLACES]) -> u64 {
-    let mut most: u64 = 0;
-    let mut card: u8 = 0;
-    while card < 8 {
-        let frames = load(places, card);
-        card += 1;
-        if most < frames {
-            most = frames;
-        }
-    }
-    most
+pub(crate) fn fullest(places: &[u8; PLACES]) -> usize {
+    (0..8).map(|card| load(places, card)).max().unwrap_or(0)
 }

@@ -1,54 +1,60 @@
 // Tickets of edition 01 with eight cards: their text, and how many cycles they take.
-use crate::lists::FRAMES;
+use crate::lists::{Case, FRAMES};
 use crate::rules::PLACES;
-use planner::Answer;
 
 // The modes, as document 01 numbers them.
-pub(crate) const READ: u8 = 0;
+#[derive(Clone, Copy)]
+pub(crate) enum Mode {
+    Read,
+    Save,
+}
 
-pub(crate) const SAVE: u8 = 1;
+impl Mode {
+    fn number(self) -> usize {
+        match self {
+            Mode::Read => 0,
+            Mode::Save => 1,
+        }
+    }
+}
 
 // The bytes of the longest ticket.
 const LONGEST: usize = 15 + 3 * FRAMES;
 
 pub(crate) type Text = [u8; LONGEST];
 
-// A number as a digit of a ticket, or as the card of a line.
-fn digit(x: u64) -> u8 {
+// A number as a digit of a ticket, or as the card of a line. A line of its own in each of three test programs: a crate for it is no plainer.
+fn digit(x: usize) -> u8 {
+    // It fits: `try_from` would be a Result that is never an Err.
     let low = (x % 16) as u8;
     if low < 10 { b'0' + low } else { b'7' + low }
 }
 
 // The ticket of n frames, a read with no pool, followed by more lines.
-pub(crate) fn text_of(cards: [u8; PLACES], n: u64) -> Text {
+pub(crate) fn text_of(cards: &[u8; PLACES], n: usize) -> Text {
     let mut text = *b"01000800000000\n\
 00\n00\n00\n00\n00\n00\n00\n00\n00\n00\n00\n00\n00\n00\n00\n00\n00\n00\n00\n00\n00\n00\n00\n00\n";
     text[12] = digit(n / 16);
     text[13] = digit(n);
-    let mut i: usize = 0;
-    while i < FRAMES {
-        text[3 * i + 16] = digit(cards[i] as u64);
-        i += 1;
+    for (i, card) in cards[..FRAMES].iter().enumerate() {
+        text[3 * i + 16] = digit(usize::from(*card));
     }
     text
 }
 
 // The ticket in a mode and with a pool.
-fn with_pool(text: Text, mode: u8, pool: u64) -> Text {
-    let mut ticket = text;
-    ticket[3] = digit(mode as u64);
+fn with_pool(text: &Text, mode: Mode, pool: usize) -> Text {
+    let mut ticket = *text;
+    ticket[3] = digit(mode.number());
     ticket[8] = digit(pool / 16);
     ticket[9] = digit(pool);
     ticket
 }
 
-// T of the ticket of n frames, in a mode and with a pool; 65,535 where it is refused.
-pub(crate) fn cycles(text: Text, n: u64, mode: u8, pool: u64) -> u16 {
+// T of the ticket of a case, in a mode and with a pool, where it is not refused.
+pub(crate) fn cycles(text: &Text, c: &Case, mode: Mode, pool: usize) -> Option<u16> {
     let ticket = with_pool(text, mode, pool);
     let mut plan = [0u16; FRAMES];
-    let answer = planner::plan(&ticket[0..15 + 3 * ((n % 25) as usize)], &mut plan);
-    match answer {
-        Answer::Planned(t) => t.0,
-        Answer::Refused(_) => 65535,
-    }
+    let plan = planner::plan(&ticket[..15 + 3 * c.frame_count()], &mut plan);
+    plan.ok().map(|t| t.0)
 }

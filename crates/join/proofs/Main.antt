@@ -15,33 +15,32 @@ use Rattle.join.specs.Cases.{answered, expected, cases}
 use Rattle.join.specs.Join.{joined_header, joinable, CanJoin, join_of, Answered}
 use Rattle.join.specs.Numbers.{numbers_of}
 use Rattle.join.specs.Showing.{Showing}
-use Rattle.join.specs.declared.Answer.{Answer}
-use Rattle.join.specs.declared.Answer.TheVariants.{Joined}
+use Rattle.std.specs.Prelude.{Result, Ok}
 use Rattle.join.proofs.Cases as table
 use Rattle.join.proofs.Refusals as refusals
 use Rattle.join.proofs.Showing as showings
 
 -- Every answer that equals the definitions of specs/Join.antt, for whichever texts and buffer, keeps the request's promises about the ticket that
 -- now stands in the buffer: the reader accepts it, it has the frames of both in the order asked for, and it takes no fewer cycles than either half.
-pub join_shows : (first second before after : List ℕ) (r : Answer) → Answered (join_of first second) before after r
+pub join_shows : (first second before after : List ℕ) (r : Result ℕ ℕ) → Answered (join_of first second) before after r
     → Showing first second (numbers_of r).refusal (numbers_of r).bytes after
 join_shows = showings.call_shows
 
 -- A joined ticket has 15 + 11 × L bytes, L the frames of both together.
 pub joined_bytes :
-    (first second before after : List ℕ) (n : ℕ) → Answered (join_of first second) before after (Joined n)
+    (first second before after : List ℕ) (n : ℕ) → Answered (join_of first second) before after (Ok n)
     → (g h : Header) (a b : List ℕ) → parse first ≡ accepted g a → parse second ≡ accepted h b → n ≡ 15 + 11 * (length a + length b)
-joined_bytes first second before after n call = showings.joined_bytes first second before after (Joined n) call refl
+joined_bytes first second before after n call = showings.joined_bytes first second before after (Ok n) call refl
 
 -- The reader accepts the bytes of a joined ticket with exactly the merged values, cards and seconds.
 pub joined_values :
-    (first second before after : List ℕ) (n : ℕ) → Answered (join_of first second) before after (Joined n)
+    (first second before after : List ℕ) (n : ℕ) → Answered (join_of first second) before after (Ok n)
     → (g h : Header) (a b : List ℕ) → parse first ≡ accepted g a → parse second ≡ accepted h b
     → (whole : List Frame) → whole ≡ merge (frames a (seconds_of first)) (frames b (seconds_of second))
     → (parse (take n after) ≡ accepted (joined_header g (length whole)) (map (λ f. f.card) whole))
     × (seconds_of (take n after) ≡ map (λ f. f.second) whole)
 joined_values first second before after n call g h a b e f whole is =
-    rw is (showings.joined_values first second before after (Joined n) call refl g h a b e f)
+    rw is (showings.joined_values first second before after (Ok n) call refl g h a b e f)
 
 -- Two accepted tickets are not refused by 18 exactly when both are edition 02 reads, with the same cards and pool.
 pub joinable_exactly : (g h : Header) → (joinable g h ≡ true → CanJoin g h) × (CanJoin g h → joinable g h ≡ true)

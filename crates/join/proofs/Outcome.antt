@@ -27,7 +27,7 @@ use Rattle.merged_lines.specs.Lines.{HasLines, lines_text, merged_text}
 use Rattle.merged_lines.proofs.Merging.{merge_length}
 use Rattle.join.specs.Join.{joined, turned_down, joined_header, joined_text, joinable, join_read, join_of, answer_of, buffer_after, Answered}
 use Rattle.join.specs.Steps.{HasHeader, together, pair_refusal}
-use Rattle.join.specs.declared.Answer.TheVariants.{Joined, Refused}
+use Rattle.std.specs.Prelude.{Ok, Err}
 use Rattle.join.proofs.HeaderText.{length_of_header}
 use Rattle.join.proofs.Refusals.{not_joinable, too_many, no_room, no_refusal, passes, first_timed, second_timed}
 use Rattle.join.proofs.Frames.{its_frames, frames_many, has_lines}
@@ -80,7 +80,7 @@ module _ (first second : List ℕ) (g h : Header) (a b : List ℕ) (e : parse fi
 
   -- 18, 19 and 10 change nothing
   pub pair_refused :
-      (k : ℕ) (before : List ℕ) → k ≡ pair_refusal g h (length before) → (k ≡ 0 → ⊥) → Answered (join_of first second) before before (Refused k)
+      (k : ℕ) (before : List ℕ) → k ≡ pair_refusal g h (length before) → (k ≡ 0 → ⊥) → Answered (join_of first second) before before (Err k)
   unfolding answer_of buffer_after
   pair_refused k before r n =
       by_cases (joinable g h)
@@ -152,14 +152,14 @@ module _ (first second : List ℕ) (g h : Header) (a b : List ℕ) (e : parse fi
         → after
         ≡ sets (sets before 0 (header_text (joined_header g n))) 15
         (merged_text (take (length first - header_bytes) (part first)) g.frames (take (length second - header_bytes) (part second)) h.frames)
-        → Answered (join_of first second) before after (Joined (15 + 11 * n))
+        → Answered (join_of first second) before after (Ok (15 + 11 * n))
     unfolding answer_of buffer_after
     pair_joined after w =
         let text = joined_text g (merge A B) in
         let long = le-ltb (length before) (length text) (omega (arith, room, bytes can)) in
         rw (join_text can few)
         (record {
-          answer = rw long (ap Joined (sym (bytes can)));
+          answer = rw long (ap Ok (sym (bytes can)));
           buffer = rw long (written_text after w ∙ sets-eq text before 0 (omega (arith, room, bytes can)) ∙ rw zero-add);
         })
 
@@ -172,7 +172,7 @@ module _ (first second : List ℕ) (g h : Header) (p : HasHeader first g) (q : H
   b = was_accepted second (answer_in (parse second)) refl h q
 
   pub read_refused :
-      (k : ℕ) (before : List ℕ) → k ≡ pair_refusal g h (length before) → (k ≡ 0 → ⊥) → Answered (join_of first second) before before (Refused k)
+      (k : ℕ) (before : List ℕ) → k ≡ pair_refusal g h (length before) → (k ≡ 0 → ⊥) → Answered (join_of first second) before before (Err k)
   read_refused = pair_refused first second g h a.0 b.0 a.1 b.1
 
   module _ (before : List ℕ) (none : 0 ≡ pair_refusal g h (length before)) where
@@ -195,17 +195,17 @@ module _ (first second : List ℕ) (g h : Header) (p : HasHeader first g) (q : H
         → after
         ≡ sets x 15
         (merged_text (take (length first - header_bytes) (part first)) g.frames (take (length second - header_bytes) (part second)) h.frames)
-        → Answered (join_of first second) before after (Joined (15 + 11 * together g h))
+        → Answered (join_of first second) before after (Ok (15 + 11 * together g h))
     read_joined x after e w = pair_joined first second g h a.0 b.0 a.1 b.1 before none after (rw e at w)
 
 -- a text that is refused, the first before the second
-pub first_refused : (first second before : List ℕ) (k : ℕ) → parse first ≡ refused k → Answered (join_of first second) before before (Refused k)
+pub first_refused : (first second before : List ℕ) (k : ℕ) → parse first ≡ refused k → Answered (join_of first second) before before (Err k)
 unfolding join_of answer_of buffer_after
 first_refused first second before k e = rw e (record { answer = refl; buffer = refl })
 
 pub second_refused :
     (first second before : List ℕ) (g : Header) (k : ℕ) → HasHeader first g → parse second ≡ refused k
-    → Answered (join_of first second) before before (Refused k)
+    → Answered (join_of first second) before before (Err k)
 unfolding join_of answer_of buffer_after
 second_refused first second before g k p e =
     rw ((was_accepted first (answer_in (parse first)) refl g p).1, e) (record { answer = refl; buffer = refl })

@@ -18,7 +18,7 @@ use Rattle.header.specs.declared.Header.{Header}
 use Rattle.mode_plans.specs.Plans.{plan_for}
 use Rattle.mode_plans.proofs.Plans.{plan_read}
 use Rattle.planner.specs.Plan.{plan_of}
-use Rattle.planner.specs.declared.Answer.TheVariants.{Planned, Refused as NotPlanned}
+use Rattle.std.specs.Prelude.{Ok, Err}
 use Rattle.schedule.specs.Greedy.{Plan, lazy_prefetching}
 use Rattle.schedule.proofs.Main as schedule
 use Rattle.ticket.specs.Grounds.{TicketRefusal}
@@ -34,8 +34,7 @@ use Rattle.join.specs.Join.{joined_header, joined_text, joinable, join_of, answe
 use Rattle.join.specs.Numbers.{numbers_of}
 use Rattle.join.specs.Showing.{OneShowing, NoFewer, Showing}
 use Rattle.join.specs.Steps.{HasHeader, pair_refusal}
-use Rattle.join.specs.declared.Answer.{Answer}
-use Rattle.join.specs.declared.Answer.TheVariants.{Refused}
+use Rattle.std.specs.Prelude.{Result, Err}
 use Rattle.join.proofs.Refusals.{first_timed, second_timed, first_reads, second_reads, same_cards, same_pool}
 use Rattle.join.proofs.Frames.{frames_many}
 use Rattle.join.proofs.Outcome.{text_bytes, pair_refused, can, few, room, text_is, first_refused, second_refused}
@@ -57,20 +56,20 @@ merged_showing a b fa fb =
 -- the T that a read ticket's plan has
 plan_T :
     (t : List ℕ) (h : Header) (cards : List ℕ) → parse t ≡ accepted h cards → h.mode ≡ mode_read → (places : ℕ) (T : Cycle)
-    → plan_of (parse t) places ≡ Planned T → T.0 ≡ (lazy_prefetching h.pool cards).T
+    → plan_of (parse t) places ≡ Ok T → T.0 ≡ (lazy_prefetching h.pool cards).T
 unfolding plan_of
 plan_T t h cards e mode places T planned =
-    let told : plan_of (accepted h cards) places ≡ Planned T = rw e at planned in
+    let told : plan_of (accepted h cards) places ≡ Ok T = rw e at planned in
     by_cases (ltb places (length cards))
-    (λ short. let z : NotPlanned 10 ≡ Planned T = rw short at told in let y : ◌≡◌ {A = ℕ} 0 1 = cc in absurd (omega arith))
+    (λ short. let z : Err 10 ≡ Ok T = rw short at told in let y : ◌≡◌ {A = ℕ} 0 1 = cc in absurd (omega arith))
     (λ long.
-    let q : Planned (record { 0 = (plan_for h.mode h.pool cards).T }) ≡ Planned T = rw long at told in
+    let q : Ok (record { 0 = (plan_for h.mode h.pool cards).T }) ≡ Ok T = rw long at told in
     let r : (plan_for h.mode h.pool cards).T ≡ T.0 = cc in
     sym r ∙ ap (λ (p : Plan). p.T) (plan_read h.mode h.pool cards mode))
 
 -- a call for two tickets that are accepted, which did not refuse
 module _
-    (first second before after : List ℕ) (r : Answer) (call : Answered (join_of first second) before after r) (z : (numbers_of r).refusal ≡ 0)
+    (first second before after : List ℕ) (r : Result ℕ ℕ) (call : Answered (join_of first second) before after r) (z : (numbers_of r).refusal ≡ 0)
     (g h : Header) (a b : List ℕ) (e : parse first ≡ accepted g a) (f : parse second ≡ accepted h b) where
   abbrev A : List Frame
   A = frames a (seconds_of first)
@@ -84,7 +83,7 @@ module _
         | yes p ↦ sym p
         | no p ↦
             (let other = (pair_refused first second g h a b e f (pair_refusal g h (length before)) before refl p).answer in
-            let told : pair_refusal g h (length before) ≡ (numbers_of r).refusal = ap (λ (x : Answer). (numbers_of x).refusal) (other ∙ sym call.answer) in
+            let told : pair_refusal g h (length before) ≡ (numbers_of r).refusal = ap (λ (x : Result ℕ ℕ). (numbers_of x).refusal) (other ∙ sym call.answer) in
             absurd (p (told ∙ z)))
       ]
 
@@ -170,7 +169,7 @@ module _
       let halves =
       schedule.joined_read g.pool (ticket.accepted_fits first g a e).pool.0
       (cards_joined a (seconds_of first) b (seconds_of second) (each first g a e (first_timed g h its)) (each second h b f (second_timed g h its))) in
-      let whole-T : (p : ℕ) (S : Cycle) → plan_of (parse (take (numbers_of r).bytes after)) p ≡ Planned S → S.0 ≡ (lazy_prefetching g.pool cards).T =
+      let whole-T : (p : ℕ) (S : Cycle) → plan_of (parse (take (numbers_of r).bytes after)) p ≡ Ok S → S.0 ≡ (lazy_prefetching g.pool cards).T =
       λ p S s. plan_T text (joined_header g (length (merge A B))) cards again.0 refl p S (rw holds_text at s) in (
         λ p q S T s t. omega (arith, whole-T p S s, plan_T first g a e (first_reads g h its) q T t, halves.0),
         λ p q S T s t.
@@ -183,12 +182,12 @@ not_zero : (t : List ℕ) (k : ℕ) → TicketRefusal t k → k ≡ 0 → ⊥
 not_zero t k = ⊎_elim (λ w z. omega (arith, w.0)) (λ w z. omega (arith, w.0))
 
 -- every call
-module _ (first second before after : List ℕ) (r : Answer) (call : Answered (join_of first second) before after r) where
+module _ (first second before after : List ℕ) (r : Result ℕ ℕ) (call : Answered (join_of first second) before after r) where
   abbrev Accepts : List ℕ → Type 0
   Accepts t = (h : Header) × (cards : List ℕ) × (parse t ≡ accepted h cards)
 
-  told : (k : ℕ) → Answered (join_of first second) before before (Refused k) → (numbers_of r).refusal ≡ k
-  told k other = ap (λ (x : Answer). (numbers_of x).refusal) (call.answer ∙ sym other.answer)
+  told : (k : ℕ) → Answered (join_of first second) before before (Err k) → (numbers_of r).refusal ≡ k
+  told k other = ap (λ (x : Result ℕ ℕ). (numbers_of x).refusal) (call.answer ∙ sym other.answer)
 
   accepts_first : (numbers_of r).refusal ≡ 0 → Accepts first
   accepts_first z =

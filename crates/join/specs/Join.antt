@@ -12,8 +12,7 @@ use Rattle.ticket.specs.Print.{ticket_text}
 use Rattle.ticket.specs.Seconds.{seconds_of}
 use Rattle.ticket.specs.Ticket.{Parsed, accepted, refused, parse}
 use Rattle.merged_lines.specs.Merge.{Frame, frames, merge}
-use Rattle.join.specs.declared.Answer.{Answer}
-use Rattle.join.specs.declared.Answer.TheVariants.{Joined, Refused}
+use Rattle.std.specs.Prelude.{Result, Ok, Err}
 
 -- The text of the joined ticket, or the number of a refusal.
 pub data Outcome : Type 0 where
@@ -61,9 +60,9 @@ unfoldable pub join_of : List ℕ → List ℕ → Outcome
 join_of first second = join_parsed (parse first) (seconds_of first) (parse second) (seconds_of second)
 
 -- What the call answers, with a buffer of so many places: "10 now also means too few places for the result, and comes last".
-unfoldable pub answer_of : Outcome → ℕ → Answer
-answer_of (joined text) places = cond (ltb places (length text)) (Refused 10) (Joined (length text))
-answer_of (turned_down k) places = Refused k
+unfoldable pub answer_of : Outcome → ℕ → Result ℕ ℕ
+answer_of (joined text) places = cond (ltb places (length text)) (Err 10) (Ok (length text))
+answer_of (turned_down k) places = Err k
 
 -- The buffer afterwards: "later places of the buffer keep their content"; a refusal changes nothing.
 unfoldable pub buffer_after : Outcome → List ℕ → List ℕ
@@ -71,6 +70,6 @@ buffer_after (joined text) before = cond (ltb (length before) (length text)) bef
 buffer_after (turned_down k) before = before
 
 -- What one call did: the answer and the buffer, both equal to the definitions above.
-pub record Answered (join : Outcome) (before after : List ℕ) (r : Answer) : Type 0 where
+pub record Answered (join : Outcome) (before after : List ℕ) (r : Result ℕ ℕ) : Type 0 where
   pub answer : r ≡ answer_of join (length before)
   pub buffer : after ≡ buffer_after join before

@@ -7,7 +7,7 @@ use Rattle.header.specs.declared.Header.{Header}
 use Rattle.ticket.specs.Seconds.{seconds_of}
 use Rattle.ticket.specs.Ticket.{accepted, parse}
 use Rattle.planner.specs.Plan.{plan_of}
-use Rattle.planner.specs.declared.Answer.TheVariants.{Planned}
+use Rattle.std.specs.Prelude.{Ok}
 use Rattle.merged_lines.specs.Merge.{Frame, frames, frame_at, second_in, NotFalling, first_place, second_place}
 use Rattle.join.specs.Join.{joined_header}
 
@@ -33,7 +33,7 @@ pub record OneShowing (first second whole : List Frame) : Type 0 where
 -- A text takes no fewer cycles than another: where both have a plan, whatever the places of the plans' buffers.
 abbrev pub NoFewer : List ℕ → List ℕ → Type 0
 NoFewer whole half =
-    (p q : ℕ) (S T : Cycle) → plan_of (parse whole) p ≡ Planned S → plan_of (parse half) q ≡ Planned T → T.0 ≤ S.0
+    (p q : ℕ) (S T : Cycle) → plan_of (parse whole) p ≡ Ok S → plan_of (parse half) q ≡ Ok T → T.0 ≤ S.0
 
 -- The request about one call of `join`: the two texts, the numbers of the answer (a refusal's, 0 for none, and the bytes), and the buffer after the
 -- call.

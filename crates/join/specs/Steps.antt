@@ -5,13 +5,13 @@ use Rattle.header.specs.Editions.{edition2, line_bytes}
 use Rattle.header.specs.Heading.{header_bytes}
 use Rattle.header.specs.Limits.{max_frames}
 use Rattle.header.specs.declared.Header.{Header}
-use Rattle.header.specs.declared.Answer.TheVariants.{Accepted}
+use Rattle.std.specs.Prelude.{Ok}
 use Rattle.ticket.specs.Ticket.{parse, answer_in}
 use Rattle.join.specs.Join.{joinable}
 
 -- a text is accepted, with this header
 abbrev pub HasHeader : List ℕ → Header → Type 0
-HasHeader t h = answer_in (parse t) ≡ Accepted h
+HasHeader t h = answer_in (parse t) ≡ Ok h
 
 -- the frames of both
 abbrev pub together : Header → Header → ℕ

@@ -3,6 +3,7 @@
 
 ghost use Rattle.std.specs.Prelude.{◌≡◌, ◌≤◌, length};
 ghost use Rattle.std.proofs.lemmas.List.Edits.{sets};
+ghost use Rattle.refusals.specs.Numbers.{told, number_in};
 ghost use Rattle.header.specs.Heading.{header_bytes};
 ghost use Rattle.ticket.specs.Print.{header_text};
 ghost use Rattle.join.specs.Join.{joinable, join_of, answer_of, buffer_after, Answered};
@@ -11,13 +12,8 @@ ghost use Rattle.join.specs.Showing.{Showing};
 ghost use Rattle.join.specs.Steps.{HasHeader, pair_refusal};
 
 use header::{Header, editions, limits};
-
-// A joined ticket of so many bytes, or the number of a refusal.
-#[derive(Clone, Copy)]
-pub enum Answer {
-    Joined(usize),
-    Refused(u8),
-}
+use refusals::Refusal;
+use text::write::DigitTexts;
 
 // The bytes of a header, and of a line of edition 02, with their end bytes.
 const HEADER: usize = 15;
@@ -46,21 +42,21 @@ fn joinable(g: Header, h: Header) -> bool
     g.pool == h.pool
 }
 
-// The refusal of two tickets that are read, with a buffer of so many places: 18, then 19, then 10; 0 for none.
-fn refusal(g: Header, h: Header, places: usize) -> u8
-    ensures { result ≡ pair_refusal g h places }
+// Whether two tickets that are read are refused, with a buffer of so many places: 18, then 19, then 10.
+fn refused(g: Header, h: Header, places: usize) -> Result<(), Refusal>
+    ensures { number_in result ≡ pair_refusal g h places }
 {
     if joinable(g, h) {
         let frames = (g.frames as usize) + (h.frames as usize);
         if limits::FRAMES < frames {
-            return 19;
+            return Err(Refusal::JoinedTooLong);
         }
         if places < HEADER + LINE * frames {
-            return 10;
+            return Err(Refusal::NoRoom);
         }
-        return 0;
+        return Ok(());
     }
-    18
+    Err(Refusal::Unlike)
 }
 
 // A header, at the front of a buffer.
@@ -68,24 +64,27 @@ fn put_header(out: &mut [u8], h: Header)
     requires { header_bytes ≤ length out.old }
     ensures { out.new ≡ sets out.old 0 (header_text h) }
 {
-    let digits = text::write::digit_texts();
-    text::write::put2(&digits, out, 0, h.edition);
-    text::write::put2(&digits, out, 2, h.mode);
-    text::write::put2(&digits, out, 4, h.cards);
-    text::write::put4(&digits, out, 6, h.pool);
-    text::write::put4(&digits, out, 10, h.frames);
+    let digits = DigitTexts::new();
+    digits.put::<2>(out, 0, u32::from(h.edition));
+    digits.put::<2>(out, 2, u32::from(h.mode));
+    digits.put::<2>(out, 4, u32::from(h.cards));
+    digits.put::<4>(out, 6, u32::from(h.pool));
+    digits.put::<4>(out, 10, u32::from(h.frames));
     out[14] = text::END;
 }
 
-// Joins two tickets that are accepted.
-fn join_read(first: &[u8], g: Header, second: &[u8], h: Header, out: &mut [u8]) -> Answer
+// Joins two tickets that are accepted, and answers the bytes of the joined ticket.
+fn join_read(
+    first: &[u8],
+    g: Header,
+    second: &[u8],
+    h: Header,
+    out: &mut [u8],
+) -> Result<usize, Refusal>
     requires { HasHeader first.now g × HasHeader second.now h }
-    ensures { Answered (join_of first.now second.now) out.old out.new result }
+    ensures { Answered (join_of first.now second.now) out.old out.new (told result) }
 {
-    let number = refusal(g, h, out.len());
-    if number != 0 {
-        return Answer::Refused(number);
-    }
+    refused(g, h, out.len())?;
     let frames = g.frames + h.frames;
     put_header(
         out,
@@ -94,7 +93,7 @@ fn join_read(first: &[u8], g: Header, second: &[u8], h: Header, out: &mut [u8]) 
             mode: limits::MODE_READ,
             cards: g.cards,
             pool: g.pool,
-            frames: frames,
+            frames,
         },
     );
     merged_lines::put_merged(
@@ -105,28 +104,19 @@ fn join_read(first: &[u8], g: Header, second: &[u8], h: Header, out: &mut [u8]) 
         out,
         HEADER,
     );
-    let bytes = HEADER + LINE * (frames as usize);
-    Answer::Joined(bytes)
+    Ok(HEADER + LINE * (frames as usize))
 }
 
 // Joins two tickets: writes the joined ticket over the front of the buffer and answers how many bytes it has; later places keep their content.
 // A refusal changes nothing. `showing` is what request 2026-04 promises of the ticket that now stands in the buffer.
-pub fn join(first: &[u8], second: &[u8], out: &mut [u8]) -> Answer
-    ensures answer { result ≡ answer_of (join_of first.now second.now) (length out.old) }
+pub fn join(first: &[u8], second: &[u8], out: &mut [u8]) -> Result<usize, Refusal>
+    ensures answer { told result ≡ answer_of (join_of first.now second.now) (length out.old) }
     ensures buffer { out.new ≡ buffer_after (join_of first.now second.now) out.old }
-    ensures numbers { numbers_of result ≡ numbers_of (answer_of (join_of first.now second.now) (length out.old)) }
-    ensures showing { Showing first.now second.now (numbers_of result).refusal (numbers_of result).bytes out.new }
+    ensures numbers { numbers_of (told result) ≡ numbers_of (answer_of (join_of first.now second.now) (length out.old)) }
+    ensures showing { Showing first.now second.now (numbers_of (told result)).refusal (numbers_of (told result)).bytes out.new }
 {
     let mut card = [0u8; limits::FRAMES];
-    let a = ticket::read(first, &mut card);
-    match a {
-        header::Answer::Refused(number) => Answer::Refused(number),
-        header::Answer::Accepted(g) => {
-            let b = ticket::read(second, &mut card);
-            match b {
-                header::Answer::Refused(number) => Answer::Refused(number),
-                header::Answer::Accepted(h) => join_read(first, g, second, h, out),
-            }
-        }
-    }
+    let g = ticket::read(first, &mut card)?;
+    let h = ticket::read(second, &mut card)?;
+    join_read(first, g, second, h, out)
 }

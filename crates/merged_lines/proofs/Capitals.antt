@@ -3,7 +3,7 @@
 use Prim.Native.Nat.{ℕ, zero, suc, ◌+◌, ◌-◌, ◌*◌, ◌/◌, ◌≤◌, ◌<◌}
 use mathlib.Core.Path.{◌≡◌, refl, sym, ap, ◌∙◌}
 use mathlib.Core.Bool.{true}
-use mathlib.Core.List.{List}
+use mathlib.Core.List.{List, [], ◌∷◌}
 use native.Mathlib.Omega.{arith}
 use native.Mathlib.Decide.{dec_lt}
 use lib.Bits.{bit_and, and_block, and_zero_r}
@@ -15,7 +15,7 @@ use Rattle.text.proofs.Bytes.{Kind, is_decimal, is_letter, is_small, is_none, ki
 use Rattle.text.proofs.Digits.{digit_at, last_digit, fewer_digits}
 use Rattle.text.proofs.Hex.{digit_back, small_digit, large_digit}
 use Rattle.text.proofs.UpperCase.{byte_upper}
-use Rattle.merged_lines.specs.Packed.{packed}
+use Rattle.merged_lines.specs.Packed.{packed, small_letters}
 use Rattle.merged_lines.proofs.Packing.{pack, packed_is, pack_cong, pack_le, pack_add, pack_four, pack_and}
 
 -- the top bit of a byte
@@ -30,27 +30,31 @@ top_on x l h =
     let e : 1 * 128 + (x - 128) ≡ x = omega arith in
     rw e at (top_of 1 (x - 128) (omega arith))
 
--- what a digit has above its capital, and how far a digit reaches
-by_kind : (b : ℕ) → Kind b → digit b < 16 → (bit_and (b + 31) 128 ≡ 4 * (b - upper b)) × (upper b ≤ b) × (b ≤ 102)
+-- what a byte has above its capital, and how far it reaches: so it is for a digit, and for 0
+abbrev pub Above : ℕ → Type 0
+Above b = (bit_and (b + 31) 128 ≡ 4 * (b - upper b)) × (upper b ≤ b) × (b ≤ 102)
+
+by_kind : (b : ℕ) → Kind b → digit b < 16 → Above b
 by_kind b (is_decimal l h d u) p = (rw u (omega (arith, top_off (b + 31) (omega arith))), omega (arith, u), omega arith)
 by_kind b (is_letter l h d u) p = (rw u (omega (arith, top_off (b + 31) (omega arith))), omega (arith, u), omega arith)
 by_kind b (is_small l h d u) p = (rw u (omega (arith, top_on (b + 31) (omega arith) (omega arith))), omega (arith, u), omega arith)
 by_kind b (is_none d u) p = absurd (omega (arith, d, p))
 
-digit_above : (b : ℕ) → digit b < 16 → (bit_and (b + 31) 128 ≡ 4 * (b - upper b)) × (upper b ≤ b) × (b ≤ 102)
+pub digit_above : (b : ℕ) → digit b < 16 → Above b
 digit_above b = by_kind b (kind b)
 
+none_above : Above 0
+unfolding upper
+none_above = (refl, omega arith, omega arith)
+
 -- n digits, given by a function
-module _ (byte : ℕ → ℕ) (n : ℕ) (d : (i : ℕ) → i < n → digit (byte i) < 16) where
+module _ (byte : ℕ → ℕ) (n : ℕ) (its : (i : ℕ) → i < n → Above (byte i)) where
   -- what each has above its capital
   abbrev above : ℕ → ℕ
   above i = byte i - upper (byte i)
 
   abbrev capital : ℕ → ℕ
   capital i = upper (byte i)
-
-  its : (i : ℕ) → i < n → (bit_and (byte i + 31) 128 ≡ 4 * above i) × (capital i ≤ byte i) × (byte i ≤ 102)
-  its i l = digit_above (byte i) (d i l)
 
   pub pack_small : pack byte n ≤ pack (λ i. 102) n
   pack_small = pack_le byte (λ i. 102) n (λ i l. (its i l).2)
@@ -87,8 +91,8 @@ module _ (s : List ℕ) (at : ℕ) (d : digits s at 8 ≡ true) where
       packed_is (upper_case s) at 8
       ∙ pack_cong (λ i. get_or (upper_case s) (at + i) 0) (λ i. upper (byte_at i)) 8 (λ i l. byte_upper s (at + i))
 
-  each : (i : ℕ) → i < 8 → digit (byte_at i) < 16
-  each i l = digit_at s at 8 i d l
+  each : (i : ℕ) → i < 8 → Above (byte_at i)
+  each i l = digit_above (byte_at i) (digit_at s at 8 i d l)
 
   pub upper_small : packed (upper_case s) at 8 ≤ 7378697629483820646
   upper_small = omega (arith, uppers, capitals_small byte_at 8 each)
@@ -103,34 +107,41 @@ module _ (s : List ℕ) (at : ℕ) (d : digits s at 8 ≡ true) where
     pub eight_small : x ≤ 7378697629483820646
     eight_small = omega (arith, as_pack, pack_small byte_at 8 each)
 
-    pub eight_less : bit_and (x + 2242545357980376863) 9259542123273814144 / 4 ≤ x
+    pub eight_less : small_letters x / 4 ≤ x
     eight_less = rw as_pack (pack_less byte_at 8 each)
 
-    pub eight_upper : x - bit_and (x + 2242545357980376863) 9259542123273814144 / 4 ≡ packed (upper_case s) at 8
+    pub eight_upper : x - small_letters x / 4 ≡ packed (upper_case s) at 8
     eight_upper = rw as_pack (pack_upper byte_at 8 each) ∙ sym uppers
 
--- two digits, the second one the higher byte
+-- two digits, the second one the higher byte, after six bytes that are 0
 module _ (a b x : ℕ) (d : digit a < 16) (e : digit b < 16) (f : x ≡ b * 256 + a) where
   abbrev of_two : ℕ → ℕ
-  of_two zero = b
-  of_two (suc i) = a
+  of_two i = get_or (0 ∷ 0 ∷ 0 ∷ 0 ∷ 0 ∷ 0 ∷ b ∷ a ∷ []) i 0
 
-  both : (i : ℕ) → i < 2 → digit (of_two i) < 16
-  both zero l = e
-  both (suc i) l = d
+  both : (i : ℕ) → i < 8 → Above (of_two i)
+  both zero l = none_above
+  both (suc zero) l = none_above
+  both (suc (suc zero)) l = none_above
+  both (suc (suc (suc zero))) l = none_above
+  both (suc (suc (suc (suc zero)))) l = none_above
+  both (suc (suc (suc (suc (suc zero))))) l = none_above
+  both (suc (suc (suc (suc (suc (suc zero)))))) l = digit_above b e
+  both (suc (suc (suc (suc (suc (suc (suc zero))))))) l = digit_above a d
+  both (suc (suc (suc (suc (suc (suc (suc (suc i)))))))) l = absurd (omega arith)
 
-  as_two : x ≡ pack of_two 2
+  as_two : x ≡ pack of_two 8
   as_two = omega (arith, f)
 
-  pub two_small : x ≤ 26214
-  two_small = omega (arith, as_two, pack_small of_two 2 both)
+  pub two_small : x ≤ 7378697629483820646
+  two_small = omega (arith, as_two, pack_small of_two 8 both)
 
-  pub two_less : bit_and (x + 7967) 32896 / 4 ≤ x
-  two_less = rw as_two (pack_less of_two 2 both)
+  pub two_less : small_letters x / 4 ≤ x
+  two_less = rw as_two (pack_less of_two 8 both)
 
-  pub two_upper : x - bit_and (x + 7967) 32896 / 4 ≡ upper b * 256 + upper a
+  pub two_upper : x - small_letters x / 4 ≡ upper b * 256 + upper a
+  unfolding upper
   two_upper =
-      let capitals : x - bit_and (x + 7967) 32896 / 4 ≡ pack (λ i. upper (of_two i)) 2 = rw as_two (pack_upper of_two 2 both) in
+      let capitals : x - small_letters x / 4 ≡ pack (λ i. upper (of_two i)) 8 = rw as_two (pack_upper of_two 8 both) in
       omega (arith, capitals)
 
 -- Digits in upper case have the order of their values.

@@ -7,7 +7,6 @@ use native.Mathlib.Omega.{arith}
 use lib.ListN.{length, take, drop}
 use lib.Seq.{sets}
 use Rattle.counting.proofs.Parts.{sets_length}
-use Rattle.text.specs.Text.{Line}
 use Rattle.text.specs.UpperCase.{upper_case}
 use Rattle.header.specs.Editions.{edition2}
 use Rattle.frame_lines.specs.Lines.{second_at}
@@ -17,7 +16,7 @@ use Rattle.merged_lines.specs.Lines.{HasLines, frames_in, key_at, merged_text}
 use Rattle.merged_lines.proofs.Merging.{merge_length}
 use Rattle.merged_lines.proofs.Turns.{Left, all_left, take_first, take_second}
 use Rattle.merged_lines.proofs.Framed.{lines, no_lines, one_line, framed_length, framed_at, second_framed}
-use Rattle.merged_lines.proofs.Keys.{key_here, its_line, first_turn, second_turn}
+use Rattle.merged_lines.proofs.Keys.{key_here, first_turn, second_turn}
 
 -- i lines of a and j of b are written, x and y are the keys of the next ones
 pub record Merging (a b : List ℕ) (n m : ℕ) (before : List ℕ) (at : ℕ) (out : List ℕ) (x y i j : ℕ) : Type 0 where
@@ -66,9 +65,6 @@ module _ (a b : List ℕ) (n m : ℕ) (its_lines : HasLines a n) (others : HasLi
         pub in_first : i < n
         in_first = turn_first.0
 
-        pub first_line : Line a (11 * i) 10
-        first_line = its_line a n i its_lines in_first
-
         pub first_key : x ≡ packed (upper_case a) (11 * i + 2) 8
         first_key = inv.first_next ∙ sym (key_here a (11 * n) (11 * i) (omega (arith, in_first)))
 
@@ -102,9 +98,6 @@ module _ (a b : List ℕ) (n m : ℕ) (its_lines : HasLines a n) (others : HasLi
 
         pub in_second : j < m
         in_second = turn_second.0
-
-        pub second_line : Line b (11 * j) 10
-        second_line = its_line b m j others in_second
 
         pub second_key : y ≡ packed (upper_case b) (11 * j + 2) 8
         second_key = inv.second_next ∙ sym (key_here b (11 * m) (11 * j) (omega (arith, in_second)))

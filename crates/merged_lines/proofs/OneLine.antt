@@ -18,7 +18,7 @@ use Rattle.text.proofs.Puts.{write_long}
 use Rattle.text.proofs.UpperCase.{byte_upper, end_stays, length_upper}
 use Rattle.merged_lines.specs.Packed.{packed, bytes}
 use Rattle.merged_lines.proofs.Packing.{bytes_packed}
-use Rattle.merged_lines.proofs.Capitals.{capital_byte, upper_byte}
+use Rattle.merged_lines.proofs.Capitals.{digit_above, capital_byte, upper_byte}
 
 -- the digits of a line's second
 pub second_digits_at : (s : List ℕ) (from : ℕ) → Line s from 10 → digits s (from + 2) 8 ≡ true
@@ -53,10 +53,10 @@ module _ (s : List ℕ) (from : ℕ) (its_line : Line s from 10) (l x : List ℕ
   second_digit = its_line.each_digit 1 (omega arith)
 
   first_byte : upper (get_or s from 0) < 256
-  first_byte = capital_byte (λ i. get_or s from 0) 1 (λ i l. first_digit) 0 (omega arith)
+  first_byte = capital_byte (λ i. get_or s from 0) 1 (λ i l. digit_above (get_or s from 0) first_digit) 0 (omega arith)
 
   pub card_small : (card : ℕ) → card ≡ upper (get_or s (from + 1) 0) * 256 + upper (get_or s from 0) → card < 65536
-  card_small card f = omega (arith, f, first_byte, capital_byte (λ i. get_or s (from + 1) 0) 1 (λ i l. second_digit) 0 (omega arith))
+  card_small card f = omega (arith, f, first_byte, capital_byte (λ i. get_or s (from + 1) 0) 1 (λ i l. digit_above (get_or s (from + 1) 0) second_digit) 0 (omega arith))
 
   eight_long : length (bytes 8 key) ≡ 8
   unfolding bytes

@@ -1,15 +1,16 @@
 -- Laws of packed bytes: sums, masks and orders of packed bytes are those of the bytes, where no byte overflows.
 -- Assumes nothing.
-use Prim.Native.Nat.{ℕ, zero, suc, ◌+◌, ◌*◌, ◌/◌, ◌%◌, ◌^◌, ◌≤◌, ◌<◌, zero-le}
-use mathlib.Core.Path.{◌≡◌, refl, ap, ◌∙◌}
-use mathlib.Core.List.{List}
+use Prim.Native.Nat.{ℕ, zero, suc, ◌+◌, ◌*◌, ◌/◌, ◌%◌, ◌≤◌, ◌<◌, zero-le}
+use mathlib.Core.Path.{◌≡◌, refl, sym, ap, ◌∙◌}
+use mathlib.Core.List.{List, [], ◌∷◌, append_assoc}
 use native.Mathlib.Omega.{arith}
 use native.Mathlib.Nat.{add-zero}
-use native.Mathlib.Numerals.{add-one}
 use lib.Bits.{bit_and, and_block}
-use lib.ListN.{length, get_or, take, drop, set, length-drop}
-use lib.Seq.{sets, take-suc, get_or-drop}
-use Rattle.text.proofs.Puts.{write_step, put_runs}
+use lib.ListN.{length, get_or, take, drop, length-drop}
+use lib.Seq.{sets, sets-eq, take-suc, drop-drop, get_or-drop}
+use borrow.Rule.Slice.PartMut.{put_mid}
+use Rattle.std.specs.Int.{w64, from_be_bytes, to_be_bytes}
+use Rattle.text.proofs.Puts.{write_step}
 use Rattle.merged_lines.specs.Packed.{packed, bytes}
 
 -- bytes given by a function, packed
@@ -57,26 +58,31 @@ bytes_packed s at (suc n) h l =
     write_step 256 (omega arith) (λ d. d) bytes (λ v. refl) (λ m v. refl) n (packed s at n) b (h n (omega arith))
     ∙ rw (bytes_packed s at n (λ i k. h i (omega arith)) (omega arith), take-suc (drop at s) n 0 inside, get_or-drop)
 
--- eight bytes as two numbers of four
+-- the library's words for the same: eight bytes read as a number, and a number's eight bytes
 pub packed_eight :
     (s : List ℕ) (at : ℕ)
-    → packed s at 8
-    ≡ (((get_or s at 0 * 256 + get_or s (at + 1) 0) * 256 + get_or s (at + 2) 0) * 256 + get_or s (at + 3) 0) * 4294967296
-    + (((get_or s (at + 4) 0 * 256 + get_or s (at + 5) 0) * 256 + get_or s (at + 6) 0) * 256 + get_or s (at + 7) 0)
+    → from_be_bytes w64
+    (get_or s at 0 ∷ get_or s (at + 1) 0 ∷ get_or s (at + 2) 0 ∷ get_or s (at + 3) 0 ∷ get_or s (at + 4) 0 ∷ get_or s (at + 5) 0
+    ∷ get_or s (at + 6) 0 ∷ get_or s (at + 7) 0 ∷ [])
+    ≡ packed s at 8
 unfolding packed
 packed_eight s at =
     let first : get_or s (at + 0) 0 ≡ get_or s at 0 = ap (λ (k : ℕ). get_or s k 0) (add-zero at) in
     omega (arith, first)
 
--- a number's two bytes put, and more of them in two runs
-pub put_two : (l : List ℕ) (at v : ℕ) → v < 65536 → set (set l at (v / 256)) (at + 1) (v % 256) ≡ sets l at (bytes 2 v)
+pub eight_bytes : (v : ℕ) → to_be_bytes w64 v ≡ bytes 8 v
 unfolding bytes
-put_two l at v h =
-    let once : v / 256 % 256 ≡ v / 256 = omega arith in
-    rw (once, add-one)
+eight_bytes v =
+    let b2 : v / 256 / 256 % 256 ≡ v / 65536 % 256 = omega arith in
+    let b3 : v / 256 / 256 / 256 % 256 ≡ v / 16777216 % 256 = omega arith in
+    let b4 : v / 256 / 256 / 256 / 256 % 256 ≡ v / 4294967296 % 256 = omega arith in
+    let b5 : v / 256 / 256 / 256 / 256 / 256 % 256 ≡ v / 1099511627776 % 256 = omega arith in
+    let b6 : v / 256 / 256 / 256 / 256 / 256 / 256 % 256 ≡ v / 281474976710656 % 256 = omega arith in
+    let b7 : v / 256 / 256 / 256 / 256 / 256 / 256 / 256 % 256 ≡ v / 72057594037927936 % 256 = omega arith in
+    rw (b2, b3, b4, b5, b6, b7)
 
-pub put_runs_256 :
-    (a b : ℕ) (l x y : List ℕ) (at v : ℕ) → x ≡ sets l at (bytes a (v / 256 ^ b)) → y ≡ sets x (at + a) (bytes b (v % 256 ^ b))
-    → y ≡ sets l at (bytes (a + b) v)
-unfolding bytes
-put_runs_256 = put_runs 256 (omega arith) (λ d. d) bytes (λ v. refl) (λ n v. refl)
+-- a part of a list that is copied over is a run of stores
+pub part_put :
+    (at n : ℕ) (l part values : List ℕ) → part ≡ values → n ≡ length values → at + length values ≤ length l → put_mid at n l part ≡ sets l at values
+part_put at n l part values e f h =
+    rw (e, f, sets-eq values l at h, drop-drop) (sym (append_assoc (take at l) values (drop (at + length values) l)))

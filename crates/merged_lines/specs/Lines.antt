@@ -1,10 +1,11 @@
 -- The frame lines of two edition 02 tickets, merged and written again in upper case.
 -- Assumes nothing.
-use Rattle.std.specs.Prelude.{ℕ, ◌+◌, ◌*◌, ◌<◌, cond, List, map, ltb, length}
+use Rattle.std.specs.Prelude.{ℕ, ◌+◌, ◌*◌, ◌≤◌, ◌<◌, ◌≡◌, cond, List, map, ltb, length}
 use Rattle.counting.specs.Count.{tabulate}
 use Rattle.text.specs.Text.{Line}
 use Rattle.text.specs.UpperCase.{upper_case}
 use Rattle.header.specs.Editions.{edition2, card_digits, line_digits, line_bytes}
+use Rattle.header.specs.Limits.{max_frames}
 use Rattle.frame_lines.specs.Lines.{card_at, second_at}
 use Rattle.ticket.specs.Print.{line_texts}
 use Rattle.merged_lines.specs.Merge.{Frame, frames, merge}
@@ -26,6 +27,14 @@ no_key = 18446744073709551615
 -- than all of them. Digits in upper case have the order of their values.
 unfoldable pub key_at : List ℕ → ℕ → ℕ → ℕ
 key_at s end from = cond (ltb from end) (packed (upper_case s) (from + card_digits) 8) no_key
+
+-- A line stands at an offset, `key` has the digits of its second, and what follows up to `end` is lines.
+pub record Next (s : List ℕ) (end from key : ℕ) : Type 0 where
+  pub line : Line s from 10
+  pub its_key : key ≡ packed (upper_case s) (from + card_digits) 8
+  pub inside : from + 11 ≤ end
+  pub few : end ≤ 11 * max_frames
+  pub next : from + 11 < end → Line s (from + 11) 10
 
 -- the lines of a list of frames
 abbrev pub lines_text : List Frame → List ℕ

@@ -7,7 +7,7 @@ ghost use Rattle.text.specs.Text.{Line};
 ghost use Rattle.text.specs.UpperCase.{upper_case};
 ghost use Rattle.header.specs.Limits.{max_frames};
 ghost use Rattle.merged_lines.specs.Packed.{packed};
-ghost use Rattle.merged_lines.specs.Lines.{HasLines, key_at, merged_text};
+ghost use Rattle.merged_lines.specs.Lines.{HasLines, Next, key_at, merged_text};
 
 use header::editions;
 
@@ -16,7 +16,7 @@ mod packed;
 // The bytes of a line, with its end byte.
 const BYTES: usize = editions::CARD_DIGITS + editions::SECOND_DIGITS + 1;
 
-// Larger than every eight digits.
+// Larger than every eight digits: where a side has no line left, one comparison still chooses the other. An Option would need a second one.
 const NO_KEY: u64 = 18446744073709551615;
 
 // A line of `s`, written at a place of `out` in upper case. `key` has the digits of its second. They are written first, since the compiler makes
@@ -43,31 +43,62 @@ fn key_at(s: &[u8], end: usize, from: usize) -> u64
     NO_KEY
 }
 
+// The lines of one ticket that are not written yet: the next one begins at an offset, and `key` is what it is sorted by.
+#[derive(Drop)]
+struct Side<'a> {
+    lines: &'a [u8],
+    end: usize,
+    from: usize,
+    key: u64,
+}
+
+impl<'a> Side<'a> {
+    // All n lines of a part.
+    fn begin(lines: &'a [u8], n: usize) -> Side<'a>
+        requires { (n ≤ max_frames) × (0 < n → Line lines.now 0 10) }
+        ensures lines { (result.lines.now ≡ lines.now) × (result.end ≡ 11 * n) }
+        ensures from { result.from ≡ 0 }
+        ensures key { result.key ≡ key_at lines.now (11 * n) 0 }
+    {
+        let end = BYTES * n;
+        let key = key_at(lines, end, 0);
+        Side {
+            lines,
+            end,
+            from: 0,
+            key,
+        }
+    }
+
+    // Writes the next line, and reads the key of the one after it.
+    fn put_next(&mut self, out: &mut [u8], at: usize)
+        requires next { Next self.old.lines.now self.old.end self.old.from self.old.key }
+        requires room { at + 11 ≤ length out.old }
+        ensures line { out.new ≡ sets out.old at (take 11 (drop self.old.from (upper_case self.old.lines.now))) }
+        ensures lines { (self.new.lines.now ≡ self.old.lines.now) × (self.new.end ≡ self.old.end) }
+        ensures from { self.new.from ≡ self.old.from + 11 }
+        ensures key { self.new.key ≡ key_at self.old.lines.now self.old.end (self.old.from + 11) }
+    {
+        put_line(self.lines, self.from, self.key, out, at);
+        self.from += BYTES;
+        self.key = key_at(self.lines, self.end, self.from);
+    }
+}
+
 // Writes the n lines of `a` and the m lines of `b`, merged, from a place of `out` on. Each turn writes the line with the smaller key, that of `a`
 // where both have the same, and then reads the next key of that side alone.
 pub fn put_merged(a: &[u8], n: usize, b: &[u8], m: usize, out: &mut [u8], at: usize)
     requires { HasLines a.now n × HasLines b.now m × (n + m ≤ max_frames) × (at + 11 * (n + m) ≤ length out.old) }
     ensures { out.new ≡ sets out.old at (merged_text a.now n b.now m) }
 {
-    let first_end = BYTES * n;
-    let second_end = BYTES * m;
-    let end = at + first_end + second_end;
-    let mut x = key_at(a, first_end, 0);
-    let mut y = key_at(b, second_end, 0);
-    let mut first: usize = 0;
-    let mut second: usize = 0;
-    let mut place = at;
-    while place < end {
-        if x <= y {
-            put_line(a, first, x, out, place);
-            place += BYTES;
-            first += BYTES;
-            x = key_at(a, first_end, first);
+    let mut first = Side::begin(a, n);
+    let mut second = Side::begin(b, m);
+    for line in 0..n + m {
+        let place = at + BYTES * line;
+        if first.key <= second.key {
+            first.put_next(out, place);
         } else {
-            put_line(b, second, y, out, place);
-            place += BYTES;
-            second += BYTES;
-            y = key_at(b, second_end, second);
+            second.put_next(out, place);
         }
     }
 }

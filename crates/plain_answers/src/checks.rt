@@ -1,13 +1,16 @@
 // A verdict, and a plan's run.
 ghost use Rattle.std.specs.Prelude.{◌≡◌};
+ghost use Rattle.refusals.specs.Numbers.{told};
 ghost use Rattle.checker.specs.Numbers.{numbers_of};
-ghost use Rattle.plan_run.specs.Numbers.{complete_in, needed_in, numbers_of as numbers_of_run};
-ghost use Rattle.plan_run.specs.declared.Answer.TheVariants.{Ran};
+ghost use Rattle.plan_run.specs.Numbers.{numbers_of as numbers_of_run};
 ghost use Rattle.plain_answers.specs.Answers.{check_answer, run_answer};
 
+use checker::Verdict;
 use counting::{Cycle, Position};
+use plan_run::Run;
+use refusals::Refusal;
 
-// A verdict by its number; 0 beside a refusal, so that no cleared answer says valid.
+// A verdict by its number, as C has it; 0 beside a refusal, so that no cleared answer says valid.
 const VALID: u8 = 1;
 
 const NO_CYCLE: u8 = 2;
@@ -52,22 +55,22 @@ fn fault(verdict: u8, p: Position) -> CheckAnswer
     }
 }
 
-pub fn check_answer(verdict: checker::Verdict) -> CheckAnswer
-    ensures { result ≡ check_answer (numbers_of verdict) }
+pub fn check_answer(answer: Result<Verdict, Refusal>) -> CheckAnswer
+    ensures { result ≡ check_answer (numbers_of (told answer)) }
 {
-    match verdict {
-        checker::Verdict::Valid(cycles, peak) => CheckAnswer {
+    match answer {
+        Ok(Verdict::Valid(cycles, peak)) => CheckAnswer {
             refusal: 0,
             verdict: VALID,
             position: Position(0),
-            cycles: cycles,
-            peak: peak,
+            cycles,
+            peak,
         },
-        checker::Verdict::NoCycle(p) => fault(NO_CYCLE, p),
-        checker::Verdict::SharedCard(p) => fault(SHARED_CARD, p),
-        checker::Verdict::Overfull(p) => fault(OVERFULL, p),
-        checker::Verdict::Refused(number) => CheckAnswer {
-            refusal: number,
+        Ok(Verdict::NoCycle(p)) => fault(NO_CYCLE, p),
+        Ok(Verdict::SharedCard(p)) => fault(SHARED_CARD, p),
+        Ok(Verdict::Overfull(p)) => fault(OVERFULL, p),
+        Err(refusal) => CheckAnswer {
+            refusal: u8::from(refusal),
             verdict: 0,
             position: Position(0),
             cycles: Cycle(0),
@@ -76,47 +79,21 @@ pub fn check_answer(verdict: checker::Verdict) -> CheckAnswer
     }
 }
 
-fn is_complete(outcome: plan_run::Outcome) -> bool
-    ensures { result ≡ complete_in outcome }
-{
-    match outcome {
-        plan_run::Outcome::Complete(_) => true,
-        plan_run::Outcome::Unfinished => false,
-    }
-}
-
-fn cycles_needed(outcome: plan_run::Outcome) -> Cycle
-    ensures { result ≡ needed_in outcome }
-{
-    match outcome {
-        plan_run::Outcome::Complete(needed) => needed,
-        plan_run::Outcome::Unfinished => Cycle(0),
-    }
-}
-
-fn ran(run: plan_run::Run) -> RunAnswer
-    ensures { result ≡ run_answer (numbers_of_run (Ran run)) }
-{
-    let outcome = run.outcome;
-    let ended = run.ended;
-    RunAnswer {
-        refusal: 0,
-        broken: run.broken,
-        complete: is_complete(outcome),
-        delivered: run.delivered,
-        ended: ended,
-        needed: cycles_needed(outcome),
-        peak: run.peak,
-    }
-}
-
-pub fn run_answer(answer: plan_run::Answer) -> RunAnswer
-    ensures { result ≡ run_answer (numbers_of_run answer) }
+pub fn run_answer(answer: Result<Run, Refusal>) -> RunAnswer
+    ensures { result ≡ run_answer (numbers_of_run (told answer)) }
 {
     match answer {
-        plan_run::Answer::Ran(run) => ran(run),
-        plan_run::Answer::Refused(number) => RunAnswer {
-            refusal: number,
+        Ok(run) => RunAnswer {
+            refusal: 0,
+            broken: run.broken,
+            complete: run.needed.is_some(),
+            delivered: run.delivered,
+            ended: run.ended,
+            needed: run.needed.unwrap_or(Cycle(0)),
+            peak: run.peak,
+        },
+        Err(refusal) => RunAnswer {
+            refusal: u8::from(refusal),
             broken: false,
             complete: false,
             delivered: 0,

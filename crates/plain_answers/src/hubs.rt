@@ -1,7 +1,10 @@
 // How many cards the hub gave.
 ghost use Rattle.std.specs.Prelude.{◌≡◌};
+ghost use Rattle.refusals.specs.Numbers.{told};
 ghost use Rattle.hub.specs.Numbers.{numbers_of};
 ghost use Rattle.plain_answers.specs.Answers.{hub_answer};
+
+use refusals::Refusal;
 
 // So many cards given.
 #[repr(C)]
@@ -11,16 +14,13 @@ pub struct HubAnswer {
     pub frames: u16,
 }
 
-pub fn hub_answer(answer: hub::Answer) -> HubAnswer
-    ensures { result ≡ hub_answer (numbers_of answer) }
+pub fn hub_answer(answer: Result<u16, Refusal>) -> HubAnswer
+    ensures { result ≡ hub_answer (numbers_of (told answer)) }
 {
     match answer {
-        hub::Answer::Gathered(frames) => HubAnswer {
-            refusal: 0,
-            frames: frames,
-        },
-        hub::Answer::Refused(number) => HubAnswer {
-            refusal: number,
+        Ok(frames) => HubAnswer { refusal: 0, frames },
+        Err(refusal) => HubAnswer {
+            refusal: u8::from(refusal),
             frames: 0,
         },
     }

@@ -1,7 +1,10 @@
 // A joined ticket's bytes.
 ghost use Rattle.std.specs.Prelude.{◌≡◌};
+ghost use Rattle.refusals.specs.Numbers.{told};
 ghost use Rattle.join.specs.Numbers.{numbers_of};
 ghost use Rattle.plain_answers.specs.Answers.{join_answer};
+
+use refusals::Refusal;
 
 // A joined ticket of so many bytes.
 #[repr(C)]
@@ -11,16 +14,13 @@ pub struct JoinAnswer {
     pub bytes: usize,
 }
 
-pub fn join_answer(answer: join::Answer) -> JoinAnswer
-    ensures { result ≡ join_answer (numbers_of answer) }
+pub fn join_answer(answer: Result<usize, Refusal>) -> JoinAnswer
+    ensures { result ≡ join_answer (numbers_of (told answer)) }
 {
     match answer {
-        join::Answer::Joined(bytes) => JoinAnswer {
-            refusal: 0,
-            bytes: bytes,
-        },
-        join::Answer::Refused(number) => JoinAnswer {
-            refusal: number,
+        Ok(bytes) => JoinAnswer { refusal: 0, bytes },
+        Err(refusal) => JoinAnswer {
+            refusal: u8::from(refusal),
             bytes: 0,
         },
     }

@@ -1,9 +1,11 @@
 // What a ticket says: its header, the line at a position, and the frames of each card.
 ghost use Rattle.std.specs.Prelude.{◌≡◌};
+ghost use Rattle.refusals.specs.Numbers.{told, number_or_0};
 ghost use Rattle.header.specs.Numbers.{numbers_of};
 ghost use Rattle.plain_answers.specs.Answers.{ticket_answer};
 
-use header::limits;
+use header::{Header, limits};
+use refusals::Refusal;
 
 // What the header of a ticket says.
 #[repr(C)]
@@ -33,19 +35,11 @@ pub struct CountsAnswer {
     pub frames: [u16; limits::CARDS],
 }
 
-pub fn ticket_answer(answer: header::Answer) -> TicketAnswer
-    ensures { result ≡ ticket_answer (numbers_of answer) }
+pub fn ticket_answer(answer: Result<Header, Refusal>) -> TicketAnswer
+    ensures { result ≡ ticket_answer (numbers_of (told answer)) }
 {
     match answer {
-        header::Answer::Refused(number) => TicketAnswer {
-            refusal: number,
-            edition: 0,
-            mode: 0,
-            cards: 0,
-            pool: 0,
-            frames: 0,
-        },
-        header::Answer::Accepted(h) => TicketAnswer {
+        Ok(h) => TicketAnswer {
             refusal: 0,
             edition: h.edition,
             mode: h.mode,
@@ -53,5 +47,20 @@ pub fn ticket_answer(answer: header::Answer) -> TicketAnswer
             pool: h.pool,
             frames: h.frames,
         },
+        Err(refusal) => TicketAnswer {
+            refusal: u8::from(refusal),
+            edition: 0,
+            mode: 0,
+            cards: 0,
+            pool: 0,
+            frames: 0,
+        },
     }
+}
+
+// A refusal's number, 0 where there is none.
+pub fn refusal_number(refusal: Option<Refusal>) -> u8
+    ensures { result ≡ number_or_0 refusal }
+{
+    refusal.map_or(0, u8::from)
 }

@@ -18,7 +18,8 @@ use Rattle.schedule.specs.Verdict as theory
 use Rattle.schedule.proofs.Exact.{Faultless, judged_no_cycle, judged_shared, judged_overfull, judged_faultless, correct_faultless}
 use Rattle.pool_counts.specs.Backlog.{backlog_of}
 use Rattle.plan_faults.specs.Faults.{Decided, fault_at, found_in, first_fault}
-use Rattle.plan_faults.specs.declared.Found.TheVariants.{Nothing}
+use Rattle.plan_faults.specs.declared.Found.{Found}
+use Rattle.std.specs.Prelude.{Option, None}
 use Rattle.plan_faults.proofs.ClearFrames.{no_card_fault}
 
 -- the verdict that says nothing of T and peak
@@ -75,7 +76,7 @@ module _ {save : Bool} {m : ℕ} {cards cycles : List ℕ} {c r : ℕ} (d : Deci
       ∙ judged_overfull (backlog_of save) m cards cycles r (rest r (omega arith) (omega arith)) (has_cycle r l) (alone r l) full))
 
   module _ (h : c ≤ r) where
-    pub no_fault : c ≡ length cards → Nothing ≡ first_fault save m cards cycles
+    pub no_fault : c ≡ length cards → ◌≡◌ {A = Option Found} None (first_fault save m cards cycles)
     unfolding first_fault
     no_fault e =
         let none : length cards - c ≡ 0 = omega arith in

@@ -101,9 +101,6 @@ module _ {cards cycles seen : List ℕ} {i : ℕ} (v : Sets cards cycles seen i)
           members = λ x k h. rw (add-one i) (members_next x k h);
         })
 
-pub sets_all : {cards cycles seen : List ℕ} {n i : ℕ} → (i ≤ n) × Sets cards cycles seen i → n ≤ i → Sets cards cycles seen n
-sets_all {n = n} {i} (inside, v) l = let e : i ≡ n = omega arith in rw e at v
-
 -- the frames before i, of the first n, are clear and in the sets
 pub record Seen (cards cycles seen : List ℕ) (n i : ℕ) : Type 0 where
   pub inside : i ≤ n

@@ -1,58 +1,58 @@
 -- Whether an earlier frame of the same card has the same cycle, looked for from the first frame on.
 -- Assumes nothing.
-use Prim.Native.Nat.{ℕ, ◌+◌, ◌≤◌, ◌<◌, zero-le}
-use mathlib.Core.Path.{◌≡◌, refl, sym}
-use mathlib.Core.Logic.{◌≢◌}
+use Prim.Native.Nat.{ℕ, ◌-◌, ◌≤◌, ◌<◌, zero-le}
+use mathlib.Core.Path.{◌≡◌, sym, ap, ◌∙◌}
 use mathlib.Core.Bool.{Bool, true, false, ◌&&◌}
 use mathlib.Core.List.{List}
 use native.Mathlib.Omega.{arith}
-use native.Mathlib.Numerals.{add-one}
 use lib.Dec.{eqb}
-use borrow.Author.Tests.{eq-eqb, ne_eqb, lt-ltb, le-ltb}
+use lib.ListN.{length, get_or}
+use Rattle.std.specs.Bool.{MatchBool}
+use Rattle.std.specs.List.{range_with_len, HoldsAt, AllWithin}
+use Rattle.std.proofs.lemmas.List.FromFn.{length-range_with_len, get_or-range_with_len}
+use borrow.Author.Tests.{lt-ltb, le-ltb}
 use Rattle.counting.specs.Count.{bit, how_many}
 use Rattle.counting.specs.Frames.{card_of}
 use Rattle.schedule.specs.Schedule.{cycle_of, o_backlog}
 use Rattle.schedule.specs.Verdict.{shares}
-use Rattle.counting.proofs.Bits.{bit_and_off}
-use Rattle.counting.proofs.Sums.{sum_term_le}
+use Rattle.counting.proofs.Sums.{sum_term_le, sum_cong, sum_zero}
 use Rattle.schedule.proofs.Exact.{apart_alone}
 
 -- frame k has the card and the cycle of frame i
-abbrev same : List ℕ → List ℕ → ℕ → ℕ → Bool
+abbrev pub same : List ℕ → List ℕ → ℕ → ℕ → Bool
 same cards cycles i k = eqb (card_of cards k) (card_of cards i) && eqb (cycle_of cycles k) (cycle_of cycles i)
 
--- none of the frames below j has the card and the cycle of frame i
-pub record Apart (cards cycles : List ℕ) (i j : ℕ) : Type 0 where
-  pub inside : j ≤ i
-  pub none : how_many j (same cards cycles i) ≡ 0
+module _ (cards cycles : List ℕ) (i : ℕ) where
+  abbrev before : List ℕ
+  before = range_with_len 0 (i - 0)
 
-pub apart_first : (cards cycles : List ℕ) (i : ℕ) → Apart cards cycles i 0
-apart_first cards cycles i = record { inside = zero-le; none = refl }
+  before_at : (k : ℕ) → k < i → get_or before k 0 ≡ k
+  before_at k l = omega (arith, get_or-range_with_len 0 (i - 0) k 0 (omega arith))
 
-module _ {cards cycles : List ℕ} {i j : ℕ} (v : Apart cards cycles i j) where
-  pub apart_cycle : j < i → cycle_of cycles j ≢ cycle_of cycles i → Apart cards cycles i (j + 1)
-  apart_cycle l n =
-      record {
-        inside = omega arith;
-        none =
-            rw (add-one j)
-            (omega (arith, v.none, bit_and_off (eqb (card_of cards j) (card_of cards i)) (eqb (cycle_of cycles j) (cycle_of cycles i)) (ne_eqb _ _ n)));
-      }
+  before_long : length before ≡ i
+  before_long = omega (arith, length-range_with_len 0 (i - 0))
 
-  pub apart_card : j < i → card_of cards j ≢ card_of cards i → Apart cards cycles i (j + 1)
-  apart_card l n =
-      record { inside = omega arith; none = rw (add-one j, ne_eqb (card_of cards j) (card_of cards i) n) (omega (arith, v.none)) }
+  some_before : (k : ℕ) → k < i → same cards cycles i k ≡ true → true ≡ shares cards cycles i
+  some_before k l e =
+      sym (lt-ltb 0 (how_many i (same cards cycles i))
+      (omega (arith, ap bit e, sum_term_le i (λ j. bit (same cards cycles i j)) k l)))
 
-  pub not_shared : i ≤ j → false ≡ shares cards cycles i
-  not_shared l =
-      let e : j ≡ i = omega (arith, v.inside) in
-      let z : how_many i (same cards cycles i) ≡ 0 = rw e at v.none in
-      sym (le-ltb 0 (how_many i (same cards cycles i)) (omega arith))
+  none_before : ((k : ℕ) → k < i → same cards cycles i k ≡ false) → false ≡ shares cards cycles i
+  none_before none =
+      let zero = sum_cong i (λ j. bit (same cards cycles i j)) (λ j. 0) (λ j l. ap bit (none j l)) ∙ sum_zero i in
+      sym (le-ltb 0 (how_many i (same cards cycles i)) (omega (arith, zero)))
 
-  pub is_shared : j < i → card_of cards j ≡ card_of cards i → cycle_of cycles j ≡ cycle_of cycles i → true ≡ shares cards cycles i
-  is_shared l c e =
-      let one : bit (same cards cycles i j) ≡ 1 = rw (eq-eqb (card_of cards j) (card_of cards i) c, eq-eqb (cycle_of cycles j) (cycle_of cycles i) e) in
-      sym (lt-ltb 0 (how_many i (same cards cycles i)) (omega (arith, sum_term_le i (λ k. bit (same cards cycles i k)) j l)))
+  -- some earlier frame was found, or none
+  pub shared_found :
+      (r : Bool)
+      → MatchBool r ((k : ℕ) × (k < length before) × HoldsAt (λ j. same cards cycles i j ≡ true) before k)
+      (AllWithin (λ j. same cards cycles i j ≡ false) before 0 (length before))
+      → r ≡ shares cards cycles i
+  shared_found true (k, l, at) =
+      let inside : k < i = omega (arith, l, before_long) in
+      some_before k inside (ap (same cards cycles i) (sym (before_at k inside)) ∙ at 0)
+  shared_found false each =
+      none_before (λ k l. ap (same cards cycles i) (sym (before_at k l)) ∙ each k 0 zero-le (omega (arith, l, before_long)))
 
 -- no frame before frame i and of its card has a cycle after `latest`
 pub record NoneAfter (cards cycles : List ℕ) (i latest : ℕ) : Type 0 where

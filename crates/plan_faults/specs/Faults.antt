@@ -8,8 +8,9 @@ use Rattle.schedule.specs.Schedule.{cycle_of}
 use Rattle.schedule.specs.Verdict.{Fault, no_cycle, shared_card, overfull, Verdict, valid, faulty, shares, judge_from}
 use Rattle.header.specs.Limits.{max_cards, max_frames}
 use Rattle.pool_counts.specs.Backlog.{backlog_of}
+use Rattle.std.specs.Prelude.{Option, None, Some}
 use Rattle.plan_faults.specs.declared.Found.{Found}
-use Rattle.plan_faults.specs.declared.Found.TheVariants.{Nothing, CycleMissing, CardShared, PoolOverfull}
+use Rattle.plan_faults.specs.declared.Found.TheVariants.{CycleMissing, CardShared, PoolOverfull}
 
 -- a list within the limits, and a plan of as many cycles
 pub record Checking (cards cycles : List ℕ) : Type 0 where
@@ -36,15 +37,15 @@ pub record Decided (save : Bool) (m : ℕ) (cards cycles : List ℕ) (c r : ℕ)
   pub overfull_next : r < c → m ≤ backlog_of save cycles r
 
 -- what is found, from the verdict of the theory, whose faults are found in the same order
-abbrev pub fault_at : ℕ → Fault → Found
-fault_at i no_cycle = CycleMissing (record { 0 = i })
-fault_at i shared_card = CardShared (record { 0 = i })
-fault_at i overfull = PoolOverfull (record { 0 = i })
+abbrev pub fault_at : ℕ → Fault → Option Found
+fault_at i no_cycle = Some (CycleMissing (record { 0 = i }))
+fault_at i shared_card = Some (CardShared (record { 0 = i }))
+fault_at i overfull = Some (PoolOverfull (record { 0 = i }))
 
-abbrev pub found_in : Verdict → Found
-found_in (valid T peak) = Nothing
+abbrev pub found_in : Verdict → Option Found
+found_in (valid T peak) = None
 found_in (faulty i fault) = fault_at i fault
 
 -- in the whole list
-unfoldable pub first_fault : Bool → ℕ → List ℕ → List ℕ → Found
+unfoldable pub first_fault : Bool → ℕ → List ℕ → List ℕ → Option Found
 first_fault save m cards cycles = found_in (judge_from (backlog_of save) m cards cycles (length cards) 0 (valid 0 0))

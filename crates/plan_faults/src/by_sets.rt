@@ -1,10 +1,10 @@
 // A card fault looked for in a table that has, for each cycle up to 4,096, the set of the cards that have a frame in it.
+// Cards and plan are two slices, as src/lib.rt says; `from` and `n` are places in both, and the clauses have them (`Sets .. n`, `Front .. from n`).
 ghost use Rattle.std.specs.Prelude.{◌≡◌, ◌+◌, ◌^◌, ◌<◌, eqb};
 ghost use Rattle.header.specs.Limits.{max_cards};
 ghost use Rattle.plan_faults.specs.Faults.{Checking, clear_of};
 ghost use Rattle.plan_faults.specs.Searches.{ClearTo, Front, member_of, Sets, LowCycles};
 
-use counting::Cycle;
 use header::limits;
 
 // Whether a card is in a set.
@@ -12,7 +12,7 @@ fn has(set: u32, card: u8) -> bool
     requires { card < max_cards }
     ensures { result ≡ eqb (member_of set card) 1 }
 {
-    (set >> card as u32) % 2 == 1
+    (set >> card) % 2 == 1
 }
 
 // The set with a card that is not in it.
@@ -20,20 +20,18 @@ fn with(set: u32, card: u8) -> u32
     requires { (card < max_cards) × (member_of set card ≡ 0) }
     ensures { result ≡ set + 2 ^ card }
 {
-    set + (1u32 << card as u32)
+    set + (1u32 << card)
 }
 
-// Enters the first n frames, which are clear, into sets that are empty.
+// Enters the first n frames, which are clear, into sets that are empty. What it shares with `clear` is one line, and that is `with`.
 fn enter(cards: &[u8], plan: &[u16], n: usize, seen: &mut [u32])
     requires { Checking cards.now plan.now × LowCycles plan.now × ClearTo cards.now plan.now n × Sets cards.now plan.now seen.old 0 }
     ensures { Sets cards.now plan.now seen.new n }
 {
-    let mut i: usize = 0;
-    while i < n {
-        let cycle = plan[i];
-        let c = counting::cycle_index(Cycle(cycle));
+    // By position, as a `zip` compares with the ends of both slices at each frame.
+    for i in 0..n {
+        let c = usize::from(plan[i]);
         seen[c] = with(seen[c], cards[i]);
-        i += 1;
     }
 }
 
@@ -45,11 +43,10 @@ pub(crate) fn clear(cards: &[u8], plan: &[u16], from: usize, n: usize) -> usize
 {
     let mut seen = [0u32; limits::FRAMES + 1];
     enter(cards, plan, from, &mut seen);
-    let mut i = from;
-    while i < n {
+    for i in from..n {
         let card = cards[i];
         let cycle = plan[i];
-        let c = counting::cycle_index(Cycle(cycle));
+        let c = usize::from(cycle);
         let set = seen[c];
         if cycle == 0 {
             return i;
@@ -58,7 +55,6 @@ pub(crate) fn clear(cards: &[u8], plan: &[u16], from: usize, n: usize) -> usize
             return i;
         }
         seen[c] = with(set, card);
-        i += 1;
     }
     n
 }

@@ -1,4 +1,4 @@
-// A card fault looked for among all earlier frames, for plans of whatever cycles.
+// A card fault looked for among all earlier frames, for plans of whatever cycles. Cards and plan are two slices, as src/lib.rt says.
 ghost use Rattle.std.specs.Prelude.{◌≡◌, ◌≤◌, ◌<◌, length};
 ghost use Rattle.schedule.specs.Verdict.{shares};
 ghost use Rattle.plan_faults.specs.Faults.{Checking, clear_of};
@@ -13,26 +13,19 @@ fn shared(cards: &[u8], plan: &[u16], i: usize) -> bool
 {
     let card = cards[i];
     let cycle = plan[i];
-    let mut j: usize = 0;
-    while j < i {
-        let k = j;
-        j += 1;
-        if plan[k] == cycle {
-            if cards[k] == card {
-                return true;
-            }
-        }
-    }
-    false
+    (0..i).any(|k| plan[k] == cycle && cards[k] == card)
 }
 
-// How many of the first n frames are clear. A frame is searched for only where it is not after all earlier ones of its card.
+// How many of the first n frames are clear. A frame is searched for only where it is not after all earlier ones of its card. `n` is a place, as in
+// the clause (`clear_of cards plan n`): with slices of the first n, both would have a `take n` there.
 pub(crate) fn clear(cards: &[u8], plan: &[u16], n: usize) -> usize
     requires { Checking cards.now plan.now × (n ≤ length cards.now) }
     ensures { result ≡ clear_of cards.now plan.now n }
 {
+    // by card: no array runs beside it
     let mut latest = [0u16; limits::CARDS];
     let mut i = rising::rising(cards, plan, 0, &mut latest);
+    // The next frame to look at is where `rising` stops, so this goes over no range.
     while i < n {
         if plan[i] == 0 {
             return i;

@@ -53,45 +53,36 @@ from_earlier {cycles} {t} {i} {x} n f =
       met = λ m. (let r = f.met m in (omega (arith, r.0), r.1, r.2));
     }
 
--- frame i - 1 is linked
-module _ {cycles first after : List ℕ} {i : ℕ} (s : Small cycles) (v : Chains cycles i first after) (l : 0 < i) where
-  one_before : i - 1 < length cycles
-  one_before = omega (arith, v.inside)
+-- frame i is linked
+module _ {cycles first after : List ℕ} {i : ℕ} (s : Small cycles) (v : Chains cycles (i + 1) first after) (l : i < length cycles) where
+  pub link_place : i < length after
+  link_place = omega (arith, s.few, v.after_long)
 
-  pub link_place : i - 1 < length after
-  link_place = omega (arith, one_before, s.few, v.after_long)
-
-  module _ {c : ℕ} (c-is : c ≡ cycle_of cycles (i - 1)) where
+  module _ {c : ℕ} (c-is : c ≡ cycle_of cycles i) where
     pub link_head : c < heads
-    link_head = omega (arith, s.low (i - 1) one_before)
+    link_head = omega (arith, s.low i l)
 
-    next_frame : suc (i - 1) ≡ i
-    next_frame = omega arith
-
-    firsts_next : (t : ℕ) → t < heads → From cycles t (i - 1) (get_or (set first c (i - 1)) t 0)
+    firsts_next : (t : ℕ) → t < heads → From cycles t i (get_or (set first c i) t 0)
     firsts_next t h =
         elim (ℕ_discrete t c) [
-          | yes e ↦ rw (e, get_or-set_same first c (i - 1) 0 (omega (arith, link_head, v.first_long))) (from_here one_before (sym c-is))
-          | no e ↦
-              rw (get_or-set_other first c t (i - 1) 0 e)
-              (from_earlier (λ q. e (omega arith)) (rw next_frame (v.firsts t h)))
+          | yes e ↦ rw (e, get_or-set_same first c i 0 (omega (arith, link_head, v.first_long))) (from_here l (sym c-is))
+          | no e ↦ rw (get_or-set_other first c t i 0 e) (from_earlier (λ q. e (omega arith)) (rw add-one at (v.firsts t h)))
         ]
 
     nexts_next :
-        (j : ℕ) → i - 1 ≤ j → j < length cycles → From cycles (cycle_of cycles j) (suc j) (get_or (set after (i - 1) (get_or first c 0)) j 0)
+        (j : ℕ) → i ≤ j → j < length cycles → From cycles (cycle_of cycles j) (suc j) (get_or (set after i (get_or first c 0)) j 0)
     nexts_next j k g =
-        elim (ℕ_discrete j (i - 1)) [
-          | yes e ↦
-              rw (e, get_or-set_same after (i - 1) (get_or first c 0) 0 link_place, next_frame, ← c-is) (v.firsts c link_head)
-          | no e ↦ rw (get_or-set_other after (i - 1) j (get_or first c 0) 0 e) (v.nexts j (omega arith) g)
+        elim (ℕ_discrete j i) [
+          | yes e ↦ rw (e, get_or-set_same after i (get_or first c 0) 0 link_place, ← c-is) (rw add-one at (v.firsts c link_head))
+          | no e ↦ rw (get_or-set_other after i j (get_or first c 0) 0 e) (v.nexts j (omega arith) g)
         ]
 
-    pub link_next : Chains cycles (i - 1) (set first c (i - 1)) (set after (i - 1) (get_or first c 0))
+    pub link_next : Chains cycles i (set first c i) (set after i (get_or first c 0))
     link_next =
         record {
-          inside = omega (arith, v.inside);
-          first_long = length-set first c (i - 1) ∙ v.first_long;
-          after_long = length-set after (i - 1) (get_or first c 0) ∙ v.after_long;
+          inside = omega arith;
+          first_long = length-set first c i ∙ v.first_long;
+          after_long = length-set after i (get_or first c 0) ∙ v.after_long;
           firsts = firsts_next;
           nexts = nexts_next;
         }

@@ -1,20 +1,25 @@
 -- The steps of a plan one after the other: the reads of a cycle, its end, and the cycles up to the last.
 -- Assumes nothing.
-use Prim.Native.Nat.{ℕ, zero, suc, ◌+◌, ◌-◌, ◌≤◌, ◌<◌}
-use mathlib.Core.Path.{◌≡◌, refl, sym}
+use Prim.Native.Nat.{ℕ, zero, suc, ◌+◌, ◌-◌, ◌≤◌, ◌<◌, min}
+use mathlib.Core.Path.{◌≡◌, refl, sym, ap}
 use mathlib.Core.List.{List, [], ◌∷◌, ◌++◌, append_assoc, append-nil}
 use native.Mathlib.Omega.{arith}
 use native.Mathlib.Numerals.{add-one}
-use native.Mathlib.Decide.{ℕ_discrete}
-use lib.ListN.{length}
-use borrow.Author.Tests.{eq-eqb, ne_eqb}
+use lib.Dec.{ltb}
+use lib.ListN.{length, get_or}
+use mathlib.Core.Bool.{true, false}
+use Rattle.std.specs.Prelude.{Option, None, Some, nat_eq}
+use Rattle.std.specs.Option.{option_eq}
+use Rattle.std.specs.List.{filter, reduce, fold}
+use borrow.Author.Tests.{eq-eqb, ne_eqb, ltb-true, ltb-false}
+use Rattle.counting.proofs.Bits.{by_cases}
 use Rattle.schedule.specs.Schedule.{cycle_of}
 use Rattle.schedule.specs.Dock.{Step, read_frame, end_cycle, empty_dock, run}
 use Rattle.schedule.specs.Drive.{reads_of, steps_to}
 use Rattle.run_progress.specs.declared.Progress.{Progress}
 use Rattle.dock.specs.State.{most_cycles}
 use Rattle.run_progress.specs.Progress.{Tracked}
-use Rattle.plan_run.specs.Cycles.{last_cycle, Reached, reads_to, ReadsMade, CyclesMade, NoneBetween, Next}
+use Rattle.plan_run.specs.Cycles.{last_cycle, Reached, reads_to, ReadsMade, CyclesMade, Next}
 use Rattle.run_progress.proofs.Tracked.{run_snoc, step_counted, read_ends_none}
 
 module _ {m : ℕ} {cards : List ℕ} {steps : List Step} {t : ℕ} {p : Progress} {memory : List ℕ} (v : Reached m cards steps t p memory) where
@@ -79,17 +84,20 @@ no_reads cycles c zero h = refl
 no_reads cycles c (suc n) h =
     rw (no_reads cycles c n (λ i l. h i (omega arith)), ne_eqb (cycle_of cycles n) c (h n (omega arith)))
 
-pub reads_of_none :
-    {cycles : List ℕ} {c : ℕ} {p : Progress} {memory : List ℕ} {next : ℕ} → 1 ≤ c → Next cycles (c - 1) next → c < next
-    → ReadsMade cycles c (length cycles) p memory p memory
-reads_of_none {cycles} {c} f n l =
-    let none : reads_of cycles c (length cycles) ≡ []
-    = no_reads cycles c (length cycles) (λ i k e. absurd (omega (arith, n.none_between i k (omega arith)))) in
-    record { follows = λ m cards v. rw (none, append-nil) v }
+pub other_next : (next : Option ℕ) (c : ℕ) → option_eq nat_eq next (Some c) ≡ false → next ≡ Some c → ⊥
+other_next next c e q = let same : option_eq nat_eq next (Some c) ≡ true = rw q (eq-eqb c c refl) in cc
 
--- what `next` says of the cycle after t
-pub next_asked : {cycles : List ℕ} {t next : ℕ} → Next cycles t next → Next cycles (t + 1 - 1) next
-next_asked {cycles} {t} {next} n = let e : t + 1 - 1 ≡ t = omega arith in rw e n
+not_now : (cycles : List ℕ) (c : ℕ) (next : Option ℕ) → 1 ≤ c → Next cycles (c - 1) next → (next ≡ Some c → ⊥)
+    → (i : ℕ) → i < length cycles → cycle_of cycles i ≡ c → ⊥
+not_now cycles c None f n d i l e = absurd (omega (arith, n i l))
+not_now cycles c (Some x) f n d i l e = let same : x ≡ c = omega (arith, n.0, n.1 i l (omega arith)) in d (ap (λ k. Some k) same)
+
+pub reads_of_none :
+    (cycles : List ℕ) (c : ℕ) (next : Option ℕ) {p : Progress} {memory : List ℕ} → 1 ≤ c → Next cycles (c - 1) next → (next ≡ Some c → ⊥)
+    → ReadsMade cycles c (length cycles) p memory p memory
+reads_of_none cycles c next f n d =
+    let none : reads_of cycles c (length cycles) ≡ [] = no_reads cycles c (length cycles) (not_now cycles c next f n d) in
+    record { follows = λ m cards v. rw (none, append-nil) v }
 
 -- the cycles one after the other
 module _ {cycles : List ℕ} {t : ℕ} {p : Progress} {before : List ℕ} where
@@ -103,13 +111,43 @@ module _ {cycles : List ℕ} {t : ℕ} {p : Progress} {before : List ℕ} where
         let e : u + 1 - 1 ≡ u = omega arith in
         record { follows = λ m cards x. w.follows m cards (rw e (v.follows m cards x)) }
 
--- one frame more, with the smaller of its cycle and `next` where its cycle is after t
-pub none_between_next :
-    (cycles : List ℕ) (n t next r : ℕ) → NoneBetween cycles n t next → r ≤ next → (t < cycle_of cycles n → r ≤ cycle_of cycles n)
-    → NoneBetween cycles (n + 1) t r
-none_between_next cycles n t next r h a b i l g =
-    elim (ℕ_discrete i n) [ yes e ↦ rw e (b (rw e at g)) | no e ↦ omega (arith, h i (omega arith) g) ]
+-- The first of the cycles after t, as the least of those that are: of a and of a list's
+module _ (t : ℕ) where
+  abbrev later : List ℕ → List ℕ
+  later l = filter (λ c. ltb t c) l
 
--- `next` stays what it is until its cycle
-pub next_kept : {cycles : List ℕ} {t next : ℕ} → t < next → Next cycles (t - 1) next → Next cycles t next
-next_kept l n = record { none_between = λ i k g. n.none_between i k (omega arith); after = λ k. l }
+  least_after : (a : ℕ) (l : List ℕ) → t < a → t < fold min a (later l)
+  least_after a [] h = h
+  least_after a (x ∷ l) h =
+      by_cases (ltb t x) (λ e. rw e (least_after (min a x) l (omega (arith, ltb-true t x e)))) (λ e. rw e (least_after a l h))
+
+  abbrev Least : ℕ → ℕ → List ℕ → Type 0
+  Least n a l = (n ≤ a) × ((i : ℕ) → i < length l → t < get_or l i 0 → n ≤ get_or l i 0)
+
+  least_more : (n x : ℕ) (l : List ℕ) → (t < x → n ≤ x) → ((i : ℕ) → i < length l → t < get_or l i 0 → n ≤ get_or l i 0)
+      → (i : ℕ) → i < suc (length l) → t < get_or (x ∷ l) i 0 → n ≤ get_or (x ∷ l) i 0
+  least_more n x l h g zero k = h
+  least_more n x l h g (suc i) k = g i (omega arith)
+
+  least : (a : ℕ) (l : List ℕ) → Least (fold min a (later l)) a l
+  least a [] = (omega arith, λ i h g. absurd (omega arith))
+  least a (x ∷ l) =
+      by_cases (ltb t x)
+      (λ e. rw e (let r = least (min a x) l in (omega (arith, r.0), least_more _ x l (λ g. omega (arith, r.0)) r.1)))
+      (λ e. rw e (let r = least a l in (r.0, least_more _ x l (λ g. absurd (omega (arith, ltb-false t x e))) r.1)))
+
+  none_more : (x : ℕ) (l : List ℕ) → x ≤ t → ((i : ℕ) → i < length l → get_or l i 0 ≤ t)
+      → (i : ℕ) → i < suc (length l) → get_or (x ∷ l) i 0 ≤ t
+  none_more x l h n zero k = h
+  none_more x l h n (suc i) k = n i (omega arith)
+
+  next_of_rest : (x : ℕ) (l : List ℕ) (next : Option ℕ) → x ≤ t → Next l t next → Next (x ∷ l) t next
+  next_of_rest x l None h n = none_more x l h n
+  next_of_rest x l (Some m) h n = (n.0, least_more m x l (λ g. absurd (omega arith)) n.1)
+
+  pub next_found : (cycles : List ℕ) → Next cycles t (reduce min (later cycles))
+  next_found [] = λ i h. absurd (omega arith)
+  next_found (x ∷ l) =
+      by_cases (ltb t x)
+      (λ e. rw e (let r = least x l in (least_after x l (ltb-true t x e), least_more _ x l (λ g. r.0) r.1)))
+      (λ e. rw e (next_of_rest x l (reduce min (later l)) (ltb-false t x e) (next_found l)))

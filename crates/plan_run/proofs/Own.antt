@@ -4,6 +4,7 @@ use Prim.Native.Nat.{ℕ, ◌≤◌}
 use mathlib.Core.Path.{◌≡◌, refl, ap, ◌∙◌}
 use mathlib.Core.List.{List}
 use lib.ListN.{length}
+use Rattle.std.specs.Prelude.{Some, Ok}
 use borrow.Author.Tests.{eq-eqb}
 use Rattle.schedule.specs.Schedule.{cycles_in, CorrectRead}
 use Rattle.schedule.specs.Greedy.{lazy_prefetching}
@@ -15,13 +16,11 @@ use Rattle.header.specs.declared.Header.{Header}
 use Rattle.ticket.specs.Ticket.{accepted, parse}
 use Rattle.ticket.proofs.Main.{accepted_fits}
 use Rattle.plan_run.specs.Numbers.{complete_in, needed_in, numbers_of}
-use Rattle.plan_run.specs.Run.{outcome_of, run_of, ran_of, Finished}
-use Rattle.plan_run.specs.declared.Answer.TheVariants.{Ran}
-use Rattle.plan_run.specs.declared.Outcome.TheVariants.{Complete}
+use Rattle.plan_run.specs.Run.{needed_of, run_of, ran_of, Finished}
 
 -- a plan of L cycles for an accepted ticket is run
 module _ (t : List ℕ) (h : Header) (cards cycles : List ℕ) (e : parse t ≡ accepted h cards) (l : length cycles ≡ length cards) where
-  pub plan_run : ran_of (parse t) cycles ≡ Ran (run_of h.pool cards cycles)
+  pub plan_run : ran_of (parse t) cycles ≡ Ok (run_of h.pool cards cycles)
   unfolding ran_of
   plan_run = rw (e, eq-eqb (length cycles) (length cards) l)
 
@@ -41,8 +40,8 @@ module _ (t : List ℕ) (h : Header) (cards : List ℕ) (e : parse t ≡ accepte
   drives : Drives h.pool cards cycles (cycles_in cycles)
   drives = correct_drives h.pool cards cycles correct
 
-  own_outcome : (run_of h.pool cards cycles).outcome ≡ Complete (record { 0 = (lazy_prefetching h.pool cards).T })
-  own_outcome = ap outcome_of (drives.needs_T ∙ ap complete (read_length h.pool cards pool))
+  own_needed : (run_of h.pool cards cycles).needed ≡ Some (record { 0 = (lazy_prefetching h.pool cards).T })
+  own_needed = ap needed_of (drives.needs_T ∙ ap complete (read_length h.pool cards pool))
 
   pub own_finished : Finished h.pool (length cards) (lazy_prefetching h.pool cards).T (numbers_of (ran_of (parse t) cycles))
   own_finished =
@@ -50,7 +49,7 @@ module _ (t : List ℕ) (h : Header) (cards : List ℕ) (e : parse t ≡ accepte
       (record {
         not_refused = refl;
         breaks_no_rule = drives.breaks_no_rule;
-        delivers_all = (ap complete_in own_outcome, drives.delivers_all);
-        needs_T = ap (λ o. (needed_in o).0) own_outcome;
+        delivers_all = (ap complete_in own_needed, drives.delivers_all);
+        needs_T = ap (λ o. (needed_in o).0) own_needed;
         within_pool = rw (peak_same cards cycles h.pool correct) (own_peak h.pool cards pool);
       })

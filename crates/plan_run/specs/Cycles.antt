@@ -1,13 +1,13 @@
 -- The cycles of a plan, made one after the other: what each does to the progress of a run, and what the run then answers.
 -- Assumes nothing.
-use Rattle.std.specs.Prelude.{ℕ, ◌-◌, ◌≤◌, ◌<◌, cond, List, ◌++◌, length}
+use Rattle.std.specs.Prelude.{ℕ, ◌-◌, ◌≤◌, ◌<◌, Option, None, Some, List, ◌++◌, length}
 use Rattle.schedule.specs.Schedule.{cycle_of}
 use Rattle.schedule.specs.Dock.{Step as ModelStep, empty_dock, run}
-use Rattle.schedule.specs.Drive.{complete, unfinished, reads_of, steps_to}
-use Rattle.plan_run.specs.Run.{outcome_of}
+use Rattle.schedule.specs.Drive.{reads_of, steps_to}
+use Rattle.plan_run.specs.Run.{needed_of}
 use Rattle.plan_run.specs.declared.Run.{Run}
 use Rattle.run_progress.specs.declared.Progress.{Progress}
-use Rattle.run_progress.specs.Progress.{Tracks}
+use Rattle.run_progress.specs.Progress.{Tracks, outcome_in}
 
 -- the last cycle that a plan can have: a plan's cycles have 16 bits
 abbrev pub last_cycle : ℕ
@@ -31,14 +31,10 @@ pub record ReadsMade (cycles : List ℕ) (c k : ℕ) (p : Progress) (before : Li
 pub record CyclesMade (cycles : List ℕ) (t u : ℕ) (p : Progress) (before : List ℕ) (r : Progress) (after : List ℕ) : Type 0 where
   pub follows : (m : ℕ) (cards : List ℕ) → Reached m cards (steps_to cycles t) t p before → Reached m cards (steps_to cycles u) u r after
 
--- Of the first n frames, those with a cycle after t have one from `next` on.
-abbrev pub NoneBetween : List ℕ → ℕ → ℕ → ℕ → Type 0
-NoneBetween cycles n t next = (i : ℕ) → i < n → t < cycle_of cycles i → next ≤ cycle_of cycles i
-
--- `next` is the first cycle after t that a frame has, or the last one that a plan can have.
-pub record Next (cycles : List ℕ) (t next : ℕ) : Type 0 where
-  pub none_between : NoneBetween cycles (length cycles) t next
-  pub after : t < last_cycle → t < next
+-- `next` is the first cycle after t that a frame has, if one has any.
+abbrev pub Next : List ℕ → ℕ → Option ℕ → Type 0
+Next cycles t None = (i : ℕ) → i < length cycles → cycle_of cycles i ≤ t
+Next cycles t (Some n) = (t < n) × ((i : ℕ) → i < length cycles → t < cycle_of cycles i → n ≤ cycle_of cycles i)
 
 -- what a run answers
 abbrev pub answered : Progress → Run
@@ -47,6 +43,6 @@ answered p =
       broken = p.dock.broken;
       delivered = p.dock.delivered;
       ended = record { 0 = p.dock.ended };
-      outcome = outcome_of (cond p.complete (complete p.needed) unfinished);
+      needed = needed_of (outcome_in p.needed);
       peak = p.peak;
     }

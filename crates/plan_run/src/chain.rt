@@ -6,84 +6,86 @@ ghost use Rattle.header.specs.Limits.{max_frames};
 ghost use Rattle.plan_run.specs.Cycles.{ReadsMade, CyclesMade};
 ghost use Rattle.plan_run.specs.Chain.{Small, Unlinked, Chains};
 
-use crate::cycle;
+use crate::cycle::Plan;
 use counting::{Cycle, Position};
 use dock::Step;
 use header::limits;
 use run_progress::Progress;
 
-// Stands for no position.
+// Stands for no position. Tables of Option<u16> would be twice as large, 16 KB more of a device's memory. `first` goes by cycle and `after` by frame,
+// so they are no table of pairs.
 const NONE: u16 = 65535;
+
+// A plan with its chains: of each cycle its first frame, and of each frame the next one of its cycle.
+#[derive(Clone, Copy)]
+struct Linked<'a> {
+    plan: &'a [u16],
+    first: &'a [u16],
+    after: &'a [u16],
+    ghost small: { Small plan.now },
+    ghost chained: { Chains plan.now 0 first.now after.now },
+}
 
 // Links the frames, from the last to the first: each becomes the first of its cycle.
 fn link(plan: &[u16], first: &mut [u16], after: &mut [u16])
     requires { Small plan.now × Unlinked first.old after.old }
     ensures { Chains plan.now 0 first.new after.new }
 {
-    let mut i: usize = plan.len();
-    while 0 < i {
-        i -= 1;
-        let c = plan[i] as usize;
+    for i in (0..plan.len()).rev() {
+        let c = usize::from(plan[i]);
         after[i] = first[c];
+        // below 4,096: a `try_from` would answer a Result that is never an Err
         first[c] = i as u16;
     }
 }
 
-// The reads of a cycle, in list order.
-fn reads(
-    p: Progress,
-    plan: &[u16],
-    cycle: Cycle,
-    first: &[u16],
-    after: &[u16],
-    memory: &mut [u8],
-) -> Progress
-    requires { (cycle.0 ≤ max_frames) × Small plan.now × Chains plan.now 0 first.now after.now }
-    ensures { ReadsMade plan.now cycle.0 (length plan.now) p memory.old result memory.new }
-{
-    let mut q = p;
-    let c = cycle.0;
-    let mut x = first[c as usize];
-    while x != NONE {
-        q = run_progress::track(q, Step::Read(Position(x)), memory);
-        x = after[x as usize];
+impl Linked<'_> {
+    // The reads of a cycle, in list order.
+    fn reads(self, p: Progress, cycle: Cycle, memory: &mut [u8]) -> Progress
+        requires { cycle.0 ≤ max_frames }
+        ensures { ReadsMade self.entry.plan.now cycle.0 (length self.entry.plan.now) p memory.old result memory.new }
+    {
+        let mut q = p;
+        let mut x = self.first[usize::from(cycle)];
+        // a while: a turn goes on to the frame that the table names
+        while x != NONE {
+            q = run_progress::track(q, Step::Read(Position(x)), memory);
+            x = self.after[usize::from(x)];
+        }
+        q
     }
-    q
-}
 
-// The cycles of a linked plan from the first to `last`: of each the reads of its frames, and its end.
-fn linked_to(
-    p: Progress,
-    plan: &[u16],
-    last: Cycle,
-    first: &[u16],
-    after: &[u16],
-    memory: &mut [u8],
-) -> Progress
-    requires { (last.0 ≤ max_frames) × Small plan.now × Chains plan.now 0 first.now after.now }
-    ensures { CyclesMade plan.now 0 last.0 p memory.old result memory.new }
-{
-    let end = last.0;
-    let mut q = p;
-    let mut t: u16 = 0;
-    while t < end {
-        t += 1;
-        q = reads(q, plan, Cycle(t), first, after, memory);
-        q = run_progress::track(q, Step::End, memory);
+    // The cycles of the plan from the first to `last`: of each the reads of its frames, and its end.
+    fn cycles_to(self, p: Progress, last: Cycle, memory: &mut [u8]) -> Progress
+        requires { last.0 ≤ max_frames }
+        ensures { CyclesMade self.entry.plan.now 0 last.0 p memory.old result memory.new }
+    {
+        let mut q = p;
+        for t in 0..last.0 {
+            let cycle = Cycle(t + 1);
+            q = self.reads(q, cycle, memory);
+            q = run_progress::track(q, Step::End, memory);
+        }
+        q
     }
-    q
 }
 
 // All cycles of a plan, along chains where the tables have a place for each.
-pub(crate) fn all_cycles(p: Progress, plan: &[u16], last: Cycle, memory: &mut [u8]) -> Progress
-    requires { (length plan.now ≤ max_frames) × (last.0 ≡ cycles_in plan.now) }
-    ensures { CyclesMade plan.now 0 last.0 p memory.old result memory.new }
+pub(crate) fn all_cycles(p: Progress, plan: Plan, last: Cycle, memory: &mut [u8]) -> Progress
+    requires { last.0 ≡ cycles_in plan.cycles.now }
+    ensures { CyclesMade plan.entry.cycles.now 0 last.0 p memory.old result memory.new }
 {
     if limits::MAX_FRAMES < last.0 {
-        return cycle::cycles_to(p, plan, last, memory);
+        return plan.cycles_to(p, last, memory);
     }
+    let plan = plan.cycles;
     let mut first = [NONE; limits::FRAMES + 1];
     let mut after = [0u16; limits::FRAMES];
     link(plan, &mut first, &mut after);
-    linked_to(p, plan, last, &first, &after, memory)
+    let linked = Linked {
+        plan,
+        first: &first,
+        after: &after,
+    };
+    linked.cycles_to(p, last, memory)
 }

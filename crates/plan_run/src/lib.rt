@@ -2,6 +2,7 @@
 #![tactic(auto)]
 
 ghost use Rattle.std.specs.Prelude.{◌≡◌, take};
+ghost use Rattle.refusals.specs.Numbers.{told};
 ghost use Rattle.ticket.specs.Ticket.{accepted, parse};
 ghost use Rattle.ticket.specs.Grounds.{Fits};
 ghost use Rattle.plan_run.specs.Numbers.{numbers_of};
@@ -12,56 +13,42 @@ mod chain;
 mod cycle;
 
 use counting::Cycle;
+use cycle::Plan;
 use header::{Header, limits};
+use refusals::Refusal;
 
-// What a run comes to: all frames handed over, with the cycles needed for it, or not.
-#[derive(Clone, Copy)]
-pub enum Outcome {
-    Complete(Cycle),
-    Unfinished,
-}
-
-// A plan's run: whether it broke off, frames handed over, cycles ended, cycles needed if complete, and the peak.
-#[derive(Clone, Copy)]
+// A plan's run: whether it broke off, frames handed over, cycles ended, cycles needed to hand all frames over if that was done, and the peak.
+#[derive(Clone, Copy, Debug, PartialEq, Eq)]
 pub struct Run {
     pub broken: bool,
     pub delivered: u16,
     pub ended: Cycle,
-    pub outcome: Outcome,
+    pub needed: Option<Cycle>,
     pub peak: u16,
 }
 
-// A run, or the number of a refusal.
-#[derive(Clone, Copy)]
-pub enum Answer {
-    Ran(Run),
-    Refused(u8),
-}
-
 // Runs a plan on the dock of a list that is read: the cards of its frames stand at the front of `memory`.
-fn run_list(h: Header, plan: &[u16], memory: &mut [u8]) -> Answer
+// `Fits` is asked here and has no type: clause `reads` of `ticket::read` has header and cards apart, and the cards become the dock's memory.
+fn run_list(h: Header, plan: &[u16], memory: &mut [u8]) -> Result<Run, Refusal>
     requires { Fits h (take h.frames memory.old) }
-    ensures { result ≡ ran_of (accepted h (take h.frames memory.old)) plan.now }
+    ensures { told result ≡ ran_of (accepted h (take h.frames memory.old)) plan.now }
 {
-    let n = h.frames as usize;
+    let n = usize::from(h.frames);
     if plan.len() != n {
-        return Answer::Refused(11);
+        return Err(Refusal::PlanLength);
     }
     let p = run_progress::at_start(h.frames, h.pool);
     let last = schedule::cycles_in(plan);
-    let q = chain::all_cycles(p, plan, last, memory);
-    Answer::Ran(answers::answer(q))
+    let q = chain::all_cycles(p, Plan { cycles: plan }, last, memory);
+    Ok(answers::answer(q))
 }
 
 // Runs a plan on the dock of a ticket's list and pool, whatever the ticket's mode.
-pub fn run_plan(ticket: &[u8], plan: &[u16]) -> Answer
-    ensures answer { result ≡ ran_of (parse ticket.now) plan.now }
-    ensures numbers { numbers_of result ≡ numbers_of (ran_of (parse ticket.now) plan.now) }
+pub fn run_plan(ticket: &[u8], plan: &[u16]) -> Result<Run, Refusal>
+    ensures answer { told result ≡ ran_of (parse ticket.now) plan.now }
+    ensures numbers { numbers_of (told result) ≡ numbers_of (ran_of (parse ticket.now) plan.now) }
 {
     let mut card = [0u8; limits::FRAMES];
-    let answer = ticket::read(ticket, &mut card);
-    match answer {
-        header::Answer::Refused(number) => Answer::Refused(number),
-        header::Answer::Accepted(h) => run_list(h, plan, &mut card),
-    }
+    let h = ticket::read(ticket, &mut card)?;
+    run_list(h, plan, &mut card)
 }

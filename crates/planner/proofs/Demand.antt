@@ -21,11 +21,12 @@ use Rattle.mode_plans.specs.Plans.{plan_for}
 use Rattle.mode_plans.proofs.Plans.{plan_read, plan_save, plan_length}
 use Rattle.planner.specs.Plan.{plan_of, buffer_after, Answered}
 use Rattle.planner.specs.Demand3.{Demand3}
-use Rattle.planner.specs.declared.Answer.{Answer}
+use Rattle.std.specs.Prelude.{Result}
+use Rattle.counting.specs.declared.Cycle.{Cycle}
 
 -- an accepted ticket, and a buffer with room
 module _
-    (h : Header) (cards before after : List ℕ) (r : Answer) (a : Answered (accepted h cards) before after r)
+    (h : Header) (cards before after : List ℕ) (r : Result Cycle ℕ) (a : Answered (accepted h cards) before after r)
     (room : length cards ≤ length after) (pool : 1 ≤ h.pool) where
   abbrev plan : Plan
   plan = plan_for h.mode h.pool cards
@@ -53,7 +54,7 @@ module _
       → ((numbers_of r).refusal ≡ 0) × P (take (length cards) after) (numbers_of r).cycles.0
   so_of_call P p = (answers_T.0, rw (answers_T.1, holds_plan) p)
 
-module _ (t before after : List ℕ) (r : Answer) (a : Answered (parse t) before after r) where
+module _ (t before after : List ℕ) (r : Result Cycle ℕ) (a : Answered (parse t) before after r) where
   pub demand_3 : Demand3 t (numbers_of r).refusal (numbers_of r).cycles.0 after
   demand_3 =
       record {

@@ -16,14 +16,15 @@ use Rattle.planner.specs.Demand3.{Demand3}
 use Rattle.planner.specs.Cases.{asked}
 use Rattle.planner.specs.OneFrame.{Alike, Planning}
 use Rattle.planner.specs.OneFrame as shifted
-use Rattle.planner.specs.declared.Answer.{Answer}
+use Rattle.std.specs.Prelude.{Result}
+use Rattle.counting.specs.declared.Cycle.{Cycle}
 use Rattle.planner.proofs.Cases as table
 use Rattle.planner.proofs.Demand as demand
 use Rattle.planner.proofs.OneFrame.{two_calls}
 use Rattle.planner.proofs.OneFrame as one-frame
 
 -- Every answer that equals the definitions of specs/Plan.antt, for whichever ticket and buffer, meets demand 3.
-pub demand_3 : (t before after : List ℕ) (r : Answer) → Answered (parse t) before after r
+pub demand_3 : (t before after : List ℕ) (r : Result Cycle ℕ) → Answered (parse t) before after r
     → Demand3 t (numbers_of r).refusal (numbers_of r).cycles.0 after
 demand_3 = demand.demand_3
 

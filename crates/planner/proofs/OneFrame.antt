@@ -20,12 +20,12 @@ use Rattle.mode_plans.specs.Plans.{plan_for}
 use Rattle.mode_plans.proofs.Plans.{plan_read, plan_save}
 use Rattle.planner.specs.Plan.{plan_of}
 use Rattle.planner.specs.OneFrame.{Alike, Planning, asked, expected, examples}
-use Rattle.planner.specs.declared.Answer.TheVariants.{Planned}
+use Rattle.std.specs.Prelude.{Ok}
 
 -- an accepted ticket, with room in the buffer
 planned :
     (t : List ℕ) (h : Header) (cards : List ℕ) → parse t ≡ accepted h cards → (places : ℕ) → length cards ≤ places
-    → plan_of (parse t) places ≡ Planned (record { 0 = (plan_for h.mode h.pool cards).T })
+    → plan_of (parse t) places ≡ Ok (record { 0 = (plan_for h.mode h.pool cards).T })
 unfolding plan_of
 planned t h cards e places room = rw (e, le-ltb places (length cards) room)
 

@@ -6,7 +6,7 @@ use Rattle.header.specs.declared.Header.{Header}
 use Rattle.ticket.specs.Ticket.{parse}
 use Rattle.planner.specs.Cases.{answered_for}
 use Rattle.planner.specs.Plan.{plan_of}
-use Rattle.planner.specs.declared.Answer.TheVariants.{Planned}
+use Rattle.std.specs.Prelude.{Ok}
 
 -- "For read and full save, with .. pool .. equal": what two headers have in common. The editions may differ, and so may the numbers of cards.
 pub record Alike (h g : Header) : Type 0 where
@@ -19,8 +19,8 @@ pub record Alike (h g : Header) : Type 0 where
 pub record Planning (t u : List ℕ) (p q : ℕ) (Apart : ℕ → ℕ → Type 0) : Type 0 where
   pub T : ℕ
   pub U : ℕ
-  pub first : plan_of (parse t) p ≡ Planned (record { 0 = T })
-  pub second : plan_of (parse u) q ≡ Planned (record { 0 = U })
+  pub first : plan_of (parse t) p ≡ Ok (record { 0 = T })
+  pub second : plan_of (parse u) q ≡ Ok (record { 0 = U })
   pub apart : Apart T U
 
 -- What is between two lists of frames.

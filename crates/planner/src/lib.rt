@@ -2,6 +2,7 @@
 #![tactic(auto)]
 
 ghost use Rattle.std.specs.Prelude.{◌≡◌, length, take};
+ghost use Rattle.refusals.specs.Numbers.{told};
 ghost use Rattle.ticket.specs.Ticket.{accepted, parse};
 ghost use Rattle.ticket.specs.Grounds.{Fits};
 ghost use Rattle.planner.specs.Plan.{plan_of, buffer_after, Answered};
@@ -10,38 +11,29 @@ ghost use Rattle.planner.specs.Demand3.{Demand3};
 
 use counting::Cycle;
 use header::{Header, limits};
-
-// A plan of T cycles, or the number of a refusal.
-#[derive(Clone, Copy)]
-pub enum Answer {
-    Planned(Cycle),
-    Refused(u8),
-}
+use refusals::Refusal;
 
 // Plans a list that is read: the cards of its frames stand at the front of `card`.
-fn plan_list(h: Header, card: &[u8], out: &mut [u16]) -> Answer
+fn plan_list(h: Header, card: &[u8], out: &mut [u16]) -> Result<Cycle, Refusal>
     requires { Fits h (take h.frames card.now) }
-    ensures { Answered (accepted h (take h.frames card.now)) out.old out.new result }
+    ensures { Answered (accepted h (take h.frames card.now)) out.old out.new (told result) }
 {
-    let n = h.frames as usize;
+    let n = usize::from(h.frames);
     if out.len() < n {
-        return Answer::Refused(10);
+        return Err(Refusal::NoRoom);
     }
-    Answer::Planned(mode_plans::fill(h.mode, &card[..n], h.pool, out))
+    Ok(mode_plans::fill(h.mode, &card[..n], h.pool, out))
 }
 
 // Plans a ticket: fills the first places of the buffer with each frame's cycle and answers T; later places keep their content.
 // A refusal changes nothing. `demand` is demand 3, about the T answered and the plan that now stands in the buffer.
-pub fn plan(ticket: &[u8], out: &mut [u16]) -> Answer
-    ensures answer { result ≡ plan_of (parse ticket.now) (length out.old) }
+pub fn plan(ticket: &[u8], out: &mut [u16]) -> Result<Cycle, Refusal>
+    ensures answer { told result ≡ plan_of (parse ticket.now) (length out.old) }
     ensures buffer { out.new ≡ buffer_after (parse ticket.now) out.old }
-    ensures numbers { numbers_of result ≡ numbers_of (plan_of (parse ticket.now) (length out.old)) }
-    ensures demand { Demand3 ticket.now (numbers_of result).refusal (numbers_of result).cycles.0 out.new }
+    ensures numbers { numbers_of (told result) ≡ numbers_of (plan_of (parse ticket.now) (length out.old)) }
+    ensures demand { Demand3 ticket.now (numbers_of (told result)).refusal (numbers_of (told result)).cycles.0 out.new }
 {
     let mut card = [0u8; limits::FRAMES];
-    let answer = ticket::read(ticket, &mut card);
-    match answer {
-        header::Answer::Refused(number) => Answer::Refused(number),
-        header::Answer::Accepted(h) => plan_list(h, &card, out),
-    }
+    let h = ticket::read(ticket, &mut card)?;
+    plan_list(h, &card, out)
 }

@@ -3,21 +3,35 @@
 use Prim.Native.Nat.{ℕ, suc, ◌+◌, ◌-◌, ◌≤◌, ◌<◌, min}
 use mathlib.Core.Path.{◌≡◌, refl, sym, ap, ◌∙◌}
 use mathlib.Core.Bool.{Bool, true, false, ◌&&◌}
-use mathlib.Core.List.{List}
+use mathlib.Core.List.{List, [], ◌∷◌, ◌++◌}
 use native.Mathlib.Omega.{arith}
 use native.Mathlib.Numerals.{add-one}
 use native.Mathlib.Decide.{dec_lt, ℕ_discrete}
 use lib.Dec.{leb, ltb}
-use lib.ListN.{length, take, drop, length-drop, length-take}
-use lib.Seq.{get_or-take, get_or-drop}
+use lib.ListN.{length, get_or, take, drop, length-drop, length-take, length-append, get_or-append}
+use lib.Seq.{get_or-take, get_or-drop, drop-append_seam, drop-drop}
 use borrow.Author.Tests.{lt-ltb, le-ltb, le-leb, lt-leb}
 use Rattle.counting.specs.Count.{bit, how_many, least}
-use Rattle.counting.proofs.Sums.{sum_cong, sum_zero, sum_longer, sum_split, how_many_le}
+use Rattle.std.specs.List.{sum_by}
+use Rattle.std.proofs.lemmas.List.Sums.{sum_by-cons}
+use Rattle.counting.proofs.Sums.{sum_cong, sum_zero, sum_longer, sum_split, sum_front, how_many_le}
 use Rattle.counting.proofs.Bits.{bit_le_one}
 use Rattle.counting.proofs.Least.{least_found, least_none}
 use Rattle.schedule.specs.Schedule.{cycle_of}
 use Rattle.pool_counts.specs.Backlog.{backlog_of, compared, counts, count_first, count_among}
 use Rattle.pool_counts.specs.Looking.{Looking}
+
+-- the sum of a 1 for each cycle that counts
+pub counted_list : (save : Bool) (own : ℕ) (l : List ℕ) → sum_by (λ c. bit (counts save own c)) l ≡ count_first save own l (length l)
+counted_list save own [] = refl
+counted_list save own (c ∷ l) =
+    sum_by-cons (λ x. bit (counts save own x)) c l
+    ∙ ap (λ n. bit (counts save own c) + n) (counted_list save own l)
+    ∙ sym (sum_front (length l) (λ j. bit (counts save own (cycle_of (c ∷ l) j))))
+
+-- what is left behind a part
+pub rest_left : (others : List ℕ) (k : ℕ) (part rest : List ℕ) → drop k others ≡ part ++ rest → rest ≡ drop (k + length part) others
+rest_left others k part rest e = sym (sym (drop-drop (length part) k others) ∙ ap (drop (length part)) e ∙ drop-append_seam part rest)
 
 module _ (save : Bool) (own : ℕ) (others : List ℕ) where
   abbrev test : ℕ → Bool
@@ -26,44 +40,37 @@ module _ (save : Bool) (own : ℕ) (others : List ℕ) where
   pub first_le : (k : ℕ) → count_first save own others k ≤ k
   first_le k = how_many_le k test
 
-  -- a part: the cycles from k to e
-  abbrev part : ℕ → ℕ → List ℕ
-  part k e = take (e - k) (drop k others)
+  -- a part: the cycles from k on, before a rest
+  part_counts : (k : ℕ) (part rest : List ℕ) → drop k others ≡ part ++ rest
+      → count_first save own others (k + length part) ≡ count_first save own others k + count_first save own part (length part)
+  part_counts k part rest e =
+      sum_split k (length part) (λ j. bit (test j))
+      ∙ ap (λ n. count_first save own others k + n)
+      (sum_cong (length part) (λ j. bit (test (k + j))) (λ j. bit (counts save own (cycle_of part j)))
+      (λ j l. ap (λ c. bit (counts save own c)) (sym (get_or-drop k others j 0) ∙ ap (λ s. get_or s j 0) e ∙ get_or-append part rest 0 j l)))
 
-  part_counts : (k e : ℕ) → k ≤ e → e ≤ length others
-      → count_first save own others e ≡ count_first save own others k + count_first save own (part k e) (length (part k e))
-  part_counts k e l h =
-      let whole : k + (e - k) ≡ e = omega arith in
-      let long : length (part k e) ≡ e - k = omega (arith, length-take (e - k) (drop k others), length-drop k others) in
-      omega (
-        arith,
-        ap (λ n. how_many n test) whole,
-        sum_split k (e - k) (λ j. bit (test j)),
-        sum_cong (e - k) (λ j. bit (test (k + j))) (λ j. bit (counts save own (cycle_of (part k e) j)))
-            (λ j g. ap (λ c. bit (counts save own c)) (sym (get_or-take (e - k) (drop k others) j 0 g ∙ get_or-drop k others j 0))),
-        ap (λ n. count_first save own (part k e) n) long,
-      )
+  part_inside : (k : ℕ) (part rest : List ℕ) → k ≤ length others → drop k others ≡ part ++ rest → k + length part ≤ length others
+  part_inside k part rest l e = omega (arith, length-drop k others, ap length e, length-append part rest)
 
   module _ (m : ℕ) where
     pub looking_first : Looking save own others m 0 0
     looking_first = record { inside = omega arith; so_far = refl; short = λ j l. absurd (omega arith) }
 
     module _ {k count : ℕ} (v : Looking save own others m k count) where
-      -- the part up to e, in which m are not found
-      module _ (e more : ℕ) (l : k ≤ e) (h : e ≤ length others) (more-is : more ≡ count_first save own (part k e) (length (part k e))) where
+      -- the next part, in which m are not found
+      module _ (part rest : List ℕ) (e : drop k others ≡ part ++ rest) {more : ℕ} (more-is : more ≡ count_first save own part (length part)) where
         pub part_few : count + more ≤ length others
-        part_few = omega (arith, v.so_far, part_counts k e l h, more-is, first_le e)
+        part_few =
+            omega (arith, v.so_far, part_counts k part rest e, more-is, first_le (k + length part), part_inside k part rest v.inside e)
 
-        pub looking_part : count + more < m → Looking save own others m e (count + more)
+        pub looking_part : count + more < m → Looking save own others m (k + length part) (count + more)
         looking_part short =
             record {
-              inside = h;
-              so_far = omega (arith, v.so_far, part_counts k e l h, more-is);
-              short = λ j g. omega (arith, v.so_far, part_counts k e l h, more-is, sum_longer j e (λ i. bit (test i)) (omega arith));
+              inside = part_inside k part rest v.inside e;
+              so_far = omega (arith, v.so_far, part_counts k part rest e, more-is);
+              short = λ j g.
+                  omega (arith, v.so_far, part_counts k part rest e, more-is, sum_longer j (k + length part) (λ i. bit (test i)) (omega arith));
             }
-
-      pub looking_few : count ≤ length others
-      looking_few = omega (arith, v.so_far, v.inside, first_le k)
 
       -- the next cycle, while m are not found
       pub looking_next :
@@ -78,12 +85,6 @@ module _ (save : Bool) (own : ℕ) (others : List ℕ) where
                   | no h ↦ (let e : j ≡ k = omega arith in rw e (omega (arith, v.so_far)))
                 ];
           }
-
-      pub looking_counts : count < m → k < length others → test k ≡ true → Looking save own others m (k + 1) (count + 1)
-      looking_counts short l e = looking_next short l 1 (sym (ap bit e))
-
-      pub looking_skips : count < m → k < length others → test k ≡ false → Looking save own others m (k + 1) count
-      looking_skips short l e = let z : count + 0 ≡ count = omega arith in rw z at (looking_next short l 0 (sym (ap bit e)))
 
       not_yet : (j : ℕ) → j < k → leb m (count_first save own others j) ≡ false
       not_yet j l = lt-leb m (count_first save own others j) (v.short j l)
@@ -114,17 +115,13 @@ module _ (save : Bool) (own : ℕ) (others : List ℕ) where
       )
 
       pub looked_all : length others ≤ k
-          → (count ≡ min (count_first save own others (length others)) m) × (k ≡ least (length others) (λ j. leb m (count_first save own others j)))
+          → (count ≡ min (count_first save own others (length others)) m)
+          × (length others ≡ least (length others) (λ j. leb m (count_first save own others j)))
       looked_all l =
           let e : k ≡ length others = omega (arith, v.inside) in (
             omega (arith, not_over, v.so_far, ap (λ n. how_many n test) e),
-            e ∙ sym (least_none (length others) (λ j. leb m (count_first save own others j)) (λ j g. not_yet j (omega arith))),
+            sym (least_none (length others) (λ j. leb m (count_first save own others j)) (λ j g. not_yet j (omega arith))),
           )
-
-  -- more than there are cannot be found: all cycles are counted
-  pub counted_all : {k count : ℕ} → Looking save own others (suc (length others)) k count → length others ≤ k
-      → count ≡ count_first save own others (length others)
-  counted_all v l = omega (arith, (looked_all (suc (length others)) v l).0, first_le (length others))
 
 -- a frame's later frames, in the whole list and as the part after it
 pub later_part :

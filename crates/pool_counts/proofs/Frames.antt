@@ -2,15 +2,17 @@
 -- Assumes nothing.
 use Prim.Native.Nat.{ℕ, suc, ◌+◌, ◌-◌, ◌≤◌, ◌<◌, min, max}
 use mathlib.Core.Path.{◌≡◌, refl, sym, ap, ◌∙◌}
-use mathlib.Core.Bool.{Bool, true, false, false≢true}
+use mathlib.Core.Bool.{Bool, true, false, false≢true, ◌&&◌}
 use mathlib.Core.List.{List}
 use native.Mathlib.Omega.{arith}
 use native.Mathlib.Numerals.{add-one}
 use native.Mathlib.Decide.{dec_lt, ℕ_discrete}
-use lib.Dec.{leb}
-use lib.ListN.{length, take, drop, length-take}
+use lib.Dec.{leb, ltb}
+use lib.ListN.{length, take, drop}
 use borrow.Author.Tests.{le-leb, lt-leb, leb-true}
+use Rattle.std.proofs.Common.{Option, Some, None, MatchOption, unwrap_or}
 use Rattle.counting.specs.Count.{least}
+use Rattle.counting.proofs.Sums.{how_many_le}
 use Rattle.counting.proofs.Lists.{most_next, most_stays}
 use Rattle.counting.proofs.Parts.{from_place}
 use Rattle.counting.proofs.Least.{least_found, least_none, least_le, before_least}
@@ -21,19 +23,9 @@ use Rattle.pool_counts.proofs.Counting.{count_whole}
 use Rattle.pool_counts.proofs.Covered.{backlog_covered, save_covered}
 use Rattle.pool_counts.proofs.Ceilings.{Ceiling, ceiling_first, ceiling_up, covering, ceiling_stays}
 
--- the rule's frames are those that the code compares
-pub compared_save : (save : Bool) (cycles : List ℕ) (i : ℕ) → save ≡ true → take i cycles ≡ compared save cycles i
-compared_save save cycles i e = rw e
-
-pub compared_read : (save : Bool) (cycles : List ℕ) (i : ℕ) → save ≡ false
-    → take (length cycles - (i + 1)) (drop (i + 1) cycles) ≡ compared save cycles i
-compared_read save cycles i e = rw (e, add-one i) (from_place (suc i) cycles)
-
-pub front_long : (cycles : List ℕ) (i : ℕ) → i < length cycles → i ≡ length (take i cycles)
-front_long cycles i l = omega (arith, length-take i cycles)
-
-pub front_few : (cycles : List ℕ) (i n : ℕ) → length cycles ≤ n → length (take i cycles) ≤ n
-front_few cycles i n h = omega (arith, length-take i cycles)
+-- a read's frames are those that the code compares
+pub compared_read : (cycles : List ℕ) (i : ℕ) → take (length cycles - (i + 1)) (drop (i + 1) cycles) ≡ compared false cycles i
+compared_read cycles i = rw (add-one i) (from_place (suc i) cycles)
 
 pub rule_counted :
     (save : Bool) (m : ℕ) (cycles : List ℕ) (i : ℕ) → i < length cycles → (others : List ℕ) → others ≡ compared save cycles i → {count looked : ℕ}
@@ -71,6 +63,15 @@ module _ {save : Bool} {m : ℕ} {cycles : List ℕ} {i : ℕ} (v : Roomy save m
   pub roomy_all : length cycles ≤ i → length cycles ≡ roomy_of save m cycles
   roomy_all h = sym (least_none (length cycles) (λ j. leb m (backlog_of save cycles j)) (λ j l. not_overfull j (omega arith)))
 
+-- the first frame, if any, that has no room
+pub first_overfull : (save : Bool) (m : ℕ) (cycles : List ℕ) (r : Option ℕ)
+    → MatchOption r ((k : ℕ) → 0 ≤ k → k < length cycles → backlog_of save cycles k < m)
+    (λ i. (0 ≤ i) × (i < length cycles) × (m ≤ backlog_of save cycles i) × ((k : ℕ) → 0 ≤ k → k < i → backlog_of save cycles k < m))
+    → unwrap_or r (length cycles) ≡ roomy_of save m cycles
+first_overfull save m cycles None each = roomy_all (record { inside = omega arith; each = λ k l. each k (omega arith) l }) (omega arith)
+first_overfull save m cycles (Some i) (a, l, h, each) =
+    roomy_ends (record { inside = omega arith; each = λ k b. each k (omega arith) b }) l h
+
 -- a read, i frames with room, the largest cycle of which is under the ceiling, and the most buffers that one of them needs
 pub record ReadTurn (m : ℕ) (cycles : List ℕ) (i ceiling peak : ℕ) : Type 0 where
   pub roomy : Roomy false m cycles i
@@ -106,6 +107,13 @@ module _ {m : ℕ} {cycles : List ℕ} {i ceiling peak : ℕ} (v : ReadTurn m cy
   read_all l =
       let e : i ≡ length cycles = omega (arith, v.roomy.inside) in
       (roomy_all v.roomy l, rw (← e) v.so_far)
+
+pub few_later : (cycles : List ℕ) (i : ℕ) → i_backlog cycles i ≤ length cycles
+few_later cycles i = how_many_le (length cycles) (λ j. ltb i j && leb (cycle_of cycles j) (cycle_of cycles i))
+
+-- what a read needs, told by its count
+pub told_by_count : (m : ℕ) (cycles : List ℕ) (i : ℕ) {r : ℕ} → r ≡ min (buffers_for cycles i) (m + 1) → min r (suc m) ≡ min (buffers_for cycles i) (suc m)
+told_by_count m cycles i e = omega (arith, e)
 
 -- a save, from the last frame to the first: those from i on have room, and `floor` is their smallest cycle, `past` where there is none
 pub record SaveTurn (past m : ℕ) (cycles : List ℕ) (i floor : ℕ) : Type 0 where

@@ -4,5 +4,4 @@ pub mod Ends
 pub mod Covered
 pub mod Ceilings
 pub mod Frames
-pub mod Whole
 pub mod Cases

@@ -3,9 +3,7 @@ ghost use Rattle.std.specs.Prelude.{◌≡◌, ◌≤◌, ◌<◌, min, leb, len
 ghost use Rattle.counting.specs.Count.{least};
 ghost use Rattle.header.specs.Limits.{max_frames};
 ghost use Rattle.pool_counts.specs.Backlog.{counts, count_first, count_up_to, looked_at};
-ghost use Rattle.pool_counts.specs.Looking.{Looking};
-
-use counting::Cycle;
+ghost use Rattle.pool_counts.specs.Looking.{Looking, Rule, Says};
 
 // How many frames count, up to m, and how many were looked at.
 #[derive(Clone, Copy)]
@@ -14,108 +12,77 @@ pub struct Counted {
     pub looked: u16,
 }
 
-// Whether a frame with cycle `c` counts beside one with cycle `own`.
-fn counts(save: bool, own: u16, c: u16) -> bool
-    ensures { result ≡ counts save own c }
-{
-    if save { own <= c } else { c <= own }
-}
-
 // How many of the cycles count.
-fn count_all(save: bool, own: Cycle, others: &[u16]) -> u16
-    requires { length others.now ≤ max_frames }
-    ensures { result ≡ count_first save own.0 others.now (length others.now) }
+fn count_all<F: Fn(u16) -> bool>(others: &[u16], counts: &F) -> u16
+    ghost rule: { Rule }
+    requires { F.IsAlwaysCallable counts.now × Says (F.post counts.now) rule × (length others.now ≤ max_frames) }
+    ensures { result ≡ count_first rule.save rule.own others.now (length others.now) }
 {
-    let n = others.len();
-    let cycle = own.0;
-    let mut count: u16 = 0;
-    let mut k: usize = 0;
-    while k < n {
-        let c = others[k];
-        k += 1;
-        if counts(save, cycle, c) {
-            count += 1;
-        }
-    }
-    count
+    others.iter().map(|c| u16::from(counts(*c))).sum()
 }
 
 // Cycles are counted in parts, in which the compiler compares several at a time.
 const PART: usize = 1024;
 
-// Where the part that begins at k ends.
-fn part_end(k: usize, n: usize) -> usize
-    requires { (k < n) × (n ≤ max_frames) }
-    ensures { (k < result) × (result ≤ n) }
-{
-    if n - k < PART { n } else { k + PART }
-}
-
 // Looks at whole parts, up to the one in which m are found.
-fn whole_parts(save: bool, own: Cycle, others: &[u16], m: u16) -> Counted
-    requires { length others.now ≤ max_frames }
-    ensures { Looking save own.0 others.now m result.looked result.count }
+fn whole_parts<F: Fn(u16) -> bool>(others: &[u16], m: u16, counts: &F) -> Counted
+    ghost rule: { Rule }
+    requires { F.IsAlwaysCallable counts.now × Says (F.post counts.now) rule × (length others.now ≤ max_frames) }
+    ensures { Looking rule.save rule.own others.now m result.looked result.count }
 {
-    let n = others.len();
     let mut count: u16 = 0;
-    let mut k: usize = 0;
-    while k < n {
-        let end = part_end(k, n);
-        let more = count_all(save, own, &others[k..end]);
+    let mut looked: usize = 0;
+    for part in others.chunks(PART) {
+        let more = count_all(part, counts);
         if m <= count + more {
-            return Counted {
-                count: count,
-                looked: k as u16,
-            };
+            break;
         }
         count += more;
-        k = end;
+        looked += part.len();
     }
+    // The contract bounds the cast; `try_from` would answer a Result that is never an Err.
     Counted {
-        count: count,
-        looked: k as u16,
+        count,
+        looked: looked as u16,
     }
 }
 
 // Looks at the cycles in their order until m of them count: at whole parts first, then at one after the other.
-fn count_up_to(save: bool, own: Cycle, others: &[u16], m: u16) -> Counted
-    requires { length others.now ≤ max_frames }
-    ensures count { result.count ≡ min (count_first save own.0 others.now (length others.now)) m }
-    ensures looked { result.looked ≡ least (length others.now) (λ k. leb m (count_first save own.0 others.now k)) }
+fn count_up_to<F: Fn(u16) -> bool>(others: &[u16], m: u16, counts: &F) -> Counted
+    ghost rule: { Rule }
+    requires { F.IsAlwaysCallable counts.now × Says (F.post counts.now) rule × (length others.now ≤ max_frames) }
+    ensures count { result.count ≡ min (count_first rule.save rule.own others.now (length others.now)) m }
+    ensures looked { result.looked ≡ least (length others.now) (λ k. leb m (count_first rule.save rule.own others.now k)) }
 {
-    let n = others.len();
-    let cycle = own.0;
-    let parts = whole_parts(save, own, others, m);
+    let parts = whole_parts(others, m, counts);
     let mut count = parts.count;
-    let mut k = parts.looked as usize;
-    while k < n {
+    for k in usize::from(parts.looked)..others.len() {
         if m <= count {
             return Counted {
-                count: count,
+                count,
                 looked: k as u16,
             };
         }
-        let c = others[k];
-        k += 1;
-        if counts(save, cycle, c) {
+        if counts(others[k]) {
             count += 1;
         }
     }
     Counted {
-        count: count,
-        looked: k as u16,
+        count,
+        looked: others.len() as u16,
     }
 }
 
-// The count of frame i: a save's rule has the frames before it, a read's those after it.
+// The count of frame i: a save's rule has the frames before it, a read's those after it. `save` chooses the test here, once, and the loops above are
+// built for each of the two.
 pub fn backlog(save: bool, plan: &[u16], i: usize, m: u16) -> Counted
     requires { (i < length plan.now) × (length plan.now ≤ max_frames) }
     ensures count { result.count ≡ count_up_to save m plan.now i }
     ensures looked { result.looked ≡ looked_at save m plan.now i }
 {
-    let own = Cycle(plan[i]);
+    let own = plan[i];
     if save {
-        return count_up_to(save, own, &plan[..i], m);
+        return count_up_to(&plan[..i], m, &|c| own <= c);
     }
-    count_up_to(save, own, &plan[i + 1..], m)
+    count_up_to(&plan[i + 1..], m, &|c| c <= own)
 }

@@ -3,13 +3,14 @@
 use Prim.Native.Nat.{ℕ, suc, ◌+◌, ◌≤◌, ◌<◌}
 use mathlib.Core.Path.{◌≡◌, sym, ap, ◌∙◌}
 use mathlib.Core.Bool.{true, false}
-use mathlib.Core.List.{List}
+use mathlib.Core.List.{List, ◌++◌}
 use native.Mathlib.Omega.{arith}
 use native.Mathlib.Numerals.{add-one}
 use native.Mathlib.Decide.{ℕ_discrete}
 use lib.Dec.{eqb, leb, ltb}
-use lib.ListN.{length, get_or, set, replicate, length-set, length-replicate}
+use lib.ListN.{length, get_or, set, replicate, length-set, length-replicate, get_or-append}
 use lib.Seq.{get_or-set_same, get_or-set_other}
+use Rattle.std.proofs.lemmas.List.{set-append_left}
 use borrow.Author.Tests.{eq-eqb, ne_eqb, le-ltb}
 use Rattle.counting.specs.Count.{bit, how_many}
 use Rattle.schedule.specs.Schedule.{cycle_of}
@@ -127,3 +128,14 @@ module _ {cycles table : List ℕ} {c sum : ℕ} (v : Adding cycles table c sum)
 
   pub added : (top : ℕ) → Low cycles top → suc top ≤ c → Table cycles table top
   added top low l = record { long = v.long; low = low; entries = λ k h. v.done k (omega arith) }
+
+-- the same, where the places that are added up are a part of the table
+module _ (cycles part rest : List ℕ) {c sum : ℕ} (v : Adding cycles (part ++ rest) c sum) (h : c < length part) (l : c < table_length) where
+  here : get_or (part ++ rest) c 0 ≡ get_or part c 0
+  here = get_or-append part rest 0 c h
+
+  pub add_part_small : sum + get_or part c 0 ≤ length cycles
+  add_part_small = omega (arith, add_small v l, here)
+
+  pub add_part_next : Adding cycles (set part c (sum + get_or part c 0) ++ rest) (c + 1) (sum + get_or part c 0)
+  add_part_next = rw (← set-append_left part rest c (sum + get_or part c 0) h, ← here) (add_next v l)

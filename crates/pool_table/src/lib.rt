@@ -14,7 +14,9 @@ use counting::Cycle;
 use header::limits;
 use pool_counts::Room;
 
-// The pools of a plan whose cycles are up to `top`.
+// The pools of a plan whose cycles are up to `top`. docs/PROMISES.md names this call and its clauses, so its premises stay, and so does the flag
+// `save`: it picks one of two passes, once a call, and the clauses speak of it. Below, a type with `Low` would be made here for `fill` and `add_up`
+// alone. Where a pool is counted with, a NonZeroU16 in the place of `1 ≤ m` would be taken apart again.
 pub fn pools(save: bool, plan: &[u16], top: Cycle, m: u16) -> Room
     requires { Low plan.now top.0 × (1 ≤ m) }
     ensures roomy { result.roomy ≡ roomy_of save m plan.now }

@@ -1,4 +1,4 @@
-// The table of how many frames of a plan have a cycle up to each cycle.
+// The table of how many frames of a plan have a cycle up to each cycle. `Low` is the premise of `pools`, and src/lib.rt says why it has no type.
 ghost use Rattle.header.specs.Limits.{max_frames};
 ghost use Rattle.pool_table.specs.Table.{Zeroed, Low, Tallied, Table};
 
@@ -9,13 +9,8 @@ fn tally(plan: &[u16], table: &mut [u16])
     requires { Zeroed table.old × Low plan.now max_frames }
     ensures { Tallied plan.now table.new }
 {
-    let n = plan.len();
-    let mut i: usize = 0;
-    while i < n {
-        let cycle = plan[i];
-        let c = counting::cycle_index(Cycle(cycle));
-        table[c] = table[c] + 1;
-        i += 1;
+    for cycle in plan {
+        table[usize::from(*cycle)] += 1;
     }
 }
 
@@ -24,13 +19,10 @@ fn add_up(plan: &[u16], top: Cycle, table: &mut [u16])
     requires { Tallied plan.now table.old × Low plan.now top.0 }
     ensures { Table plan.now table.new top.0 }
 {
-    let n = counting::cycle_index(top) + 1;
     let mut sum: u16 = 0;
-    let mut c: usize = 0;
-    while c < n {
-        sum += table[c];
-        table[c] = sum;
-        c += 1;
+    for count in table[..=usize::from(top)].iter_mut() {
+        sum += *count;
+        *count = sum;
     }
 }
 

@@ -1,30 +1,26 @@
 -- A frame's line put into a list: the stores one after another are one run of stores (`sets`).
 -- Assumes nothing.
-use Prim.Native.Nat.{ℕ, ◌+◌, ◌/◌, ◌%◌, ◌^◌, ◌<◌}
-use mathlib.Core.Path.{◌≡◌, sym, ◌∙◌}
+use native.Mathlib.Numerals.{add-one}
+use Prim.Native.Nat.{ℕ, suc, ◌+◌, ◌/◌, ◌%◌, ◌^◌, ◌<◌}
+use mathlib.Core.Path.{◌≡◌, ◌∙◌}
 use mathlib.Core.List.{List, ◌++◌, append_assoc}
 use native.Mathlib.Omega.{arith}
-use lib.ListN.{length, set, length-set, length-append}
+use lib.ListN.{length, set, length-append}
 use lib.Seq.{sets}
 use Rattle.text.proofs.Hex.{small_digit, length_hex}
-use Rattle.text.proofs.Puts.{put_2, put_both}
+use Rattle.text.proofs.Puts.{hex_first}
 use Rattle.counting.proofs.Parts.{sets_append, sets_length}
-use Rattle.text.specs.Hex.{digit_of, hex, end_of_line}
+use Rattle.text.specs.Hex.{hex, end_of_line}
 use Rattle.text.specs.Text.{end_byte}
 use Rattle.print_lines.specs.Lines.{frame_line}
 
 -- the digits of a position that has at most 3
-module _ (l y : List ℕ) (at p d : ℕ) (e : d ≡ digit_of (p / 256)) (f : y ≡ sets (set (set l at 48) (at + 1) d) (at + 2) (hex 2 (p % 256))) where
-  pub position_length : length y ≡ length l
-  position_length =
-      sets_length (set (set l at 48) (at + 1) d) y (at + 2) (hex 2 (p % 256)) f ∙ length-set (set l at 48) (at + 1) d ∙ length-set l at 48
-
-  pub put_position : p < 16 ^ 3 → y ≡ sets l at (hex 4 p)
-  put_position h =
-      let none : p / 256 / 16 ≡ 0 = omega arith in
-      let one : p / 256 % 16 ≡ p / 256 = omega arith in
-      let first : 48 ≡ digit_of (p / 256 / 16) = rw none (sym (small_digit 0 (omega arith))) in
-      put_both 2 2 l (set (set l at 48) (at + 1) d) y at p (put_2 l at (p / 256) 48 d (omega arith) first (rw one e)) f
+pub put_position :
+    (l y : List ℕ) (at : ℕ) {p q : ℕ} → q ≡ p → p < 16 ^ 3 → y ≡ sets (set l at 48) (at + 1) (hex 3 q) → y ≡ sets l at (hex 4 p)
+put_position l y at {p} e h f =
+    let none : p / 16 ^ 3 % 16 ≡ 0 = omega arith in
+    let place : at + 1 ≡ suc at = add-one at in
+    rw (f, e, hex_first 3 p, none, small_digit 0 (omega arith), place)
 
 module _ (l x y z : List ℕ) (at position card cycle : ℕ) (e : x ≡ sets l at (hex 4 position)) (f : y ≡ sets x (at + 4) (hex 2 card)) where
   card_length : length y ≡ length l

@@ -40,7 +40,7 @@ fn print_list(h: Header, card: &[u8], out: &mut [u8]) -> usize
     requires { Fits h (take h.frames card.now) }
     ensures { Put (text_of (accepted h (take h.frames card.now))) out.old out.new result }
 {
-    let n = h.frames as usize;
+    let n = usize::from(h.frames);
     let mut plan = [0u16; limits::FRAMES];
     let cycles = mode_plans::fill(h.mode, &card[..n], h.pool, &mut plan);
     lines::plan(&card[..n], &plan[..n], cycles, out)
@@ -54,10 +54,9 @@ pub fn print(ticket: &[u8], out: &mut [u8]) -> usize
     ensures front { Front result out.new }
 {
     let mut card = [0u8; limits::FRAMES];
-    let answer = ticket::read(ticket, &mut card);
-    match answer {
-        header::Answer::Refused(number) => print_lines::refusal(number, out),
-        header::Answer::Accepted(h) => print_list(h, &card, out),
+    match ticket::read(ticket, &mut card) {
+        Err(refusal) => print_lines::refusal(refusal, out),
+        Ok(h) => print_list(h, &card, out),
     }
 }
 

@@ -5,6 +5,7 @@ ghost use Rattle.print_lines.specs.Put.{Put};
 ghost use Rattle.printing.specs.Printed.{plan_text};
 
 use counting::{Cycle, Position};
+use text::write::DigitTexts;
 
 // T, and for each frame a line with its position, its card and its cycle.
 pub(crate) fn plan(cards: &[u8], cycles: &[u16], t: Cycle, out: &mut [u8]) -> usize
@@ -15,23 +16,18 @@ pub(crate) fn plan(cards: &[u8], cycles: &[u16], t: Cycle, out: &mut [u8]) -> us
     if out.len() < 5 + 11 * n {
         return 0;
     }
-    let digit = text::write::digit_texts();
-    text::write::put4(&digit, out, 0, t.0);
+    let digits = DigitTexts::new();
+    digits.put::<4>(out, 0, u32::from(t.0));
     out[4] = text::END;
-    let mut i: usize = 0;
-    while i < n {
-        let position = i as u16;
-        let card = cards[i];
-        let cycle = cycles[i];
+    for (i, card) in cards.iter().enumerate() {
         print_lines::frame_line(
-            &digit,
+            &digits,
             out,
             5 + 11 * i,
-            Position(position),
-            card,
-            Cycle(cycle),
+            Position(i as u16),
+            *card,
+            Cycle(cycles[i]),
         );
-        i += 1;
     }
     5 + 11 * n
 }

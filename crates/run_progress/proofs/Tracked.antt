@@ -2,10 +2,13 @@
 -- Assumes nothing.
 use Prim.Native.Nat.{ℕ, suc, ◌≤◌, ◌<◌, max}
 use mathlib.Core.Path.{◌≡◌, refl, sym, ◌∙◌}
-use mathlib.Core.Bool.{Bool, true, false, not, ◌&&◌, ◌||◌, cond}
+use mathlib.Core.Bool.{Bool, true, false, not, ◌&&◌, cond}
 use mathlib.Core.List.{List, [], ◌∷◌, ◌++◌}
 use native.Mathlib.Omega.{arith}
 use lib.Dec.{leb}
+use Rattle.std.specs.Bool.{then_some}
+use Rattle.std.specs.Option.{option_or}
+use Rattle.std.specs.Prelude.{Option, Some, None, Result}
 use Rattle.counting.proofs.Bits.{by_cases}
 use Rattle.schedule.specs.Dock.{Step, read_frame, drop_frame, end_cycle, Dock as ModelDock, empty_dock, against, perform, break_off, step, run}
 use Rattle.schedule.specs.Drive.{Outcome, complete, unfinished, all_delivered, outcome, is_end, held_at_end, peak}
@@ -15,8 +18,8 @@ use Rattle.dock.specs.declared.Dock.{Dock}
 use Rattle.dock.specs.declared.Step.{Step as CodeStep}
 use Rattle.run_progress.specs.declared.Progress.{Progress}
 use Rattle.dock.specs.State.{ShowsDock, step_of, most_cycles}
-use Rattle.dock.specs.Drive.{Follows}
-use Rattle.run_progress.specs.Progress.{Tracks, Tracked}
+use Rattle.dock.specs.Drive.{dock_after, Follows}
+use Rattle.run_progress.specs.Progress.{Tracks, Tracked, outcome_in}
 
 -- the first of two outcomes that is complete
 abbrev or_later : Outcome → Outcome → Outcome
@@ -89,30 +92,24 @@ abbrev pub noted : Progress → Step → Dock → Progress
 noted p a x =
     record {
       dock = x;
-      complete = p.complete || leb x.frames x.delivered;
-      needed = cond p.complete p.needed (cond (leb x.frames x.delivered) x.ended 0);
+      needed = option_or p.needed (then_some (leb x.frames x.delivered) x.ended);
       peak = max p.peak (cond (is_end a && not p.dock.broken) p.dock.holding 0);
     }
 
-or_later_noted :
-    (b all : Bool) (n e : ℕ)
-    → or_later (cond b (complete n) unfinished) (cond all (complete e) unfinished) ≡ cond (b || all) (complete (cond b n (cond all e 0))) unfinished
-or_later_noted true all n e = refl
-or_later_noted false true n e = refl
-or_later_noted false false n e = refl
+or_later_noted : (o : Option ℕ) (all : Bool) (e : ℕ)
+    → or_later (outcome_in o) (cond all (complete e) unfinished) ≡ outcome_in (option_or o (then_some all e))
+or_later_noted (Some n) all e = refl
+or_later_noted None true e = refl
+or_later_noted None false e = refl
 
-not_needed : (b all : Bool) (n e : ℕ) → (b ≡ false → n ≡ 0) → (b || all) ≡ false → cond b n (cond all e 0) ≡ 0
-not_needed true all n e h q = cc
-not_needed false true n e h q = cc
-not_needed false false n e h q = refl
+needed_le : (o : Option ℕ) (all : Bool) (e d : ℕ) → ((n : ℕ) → o ≡ Some n → n ≤ d) → e ≤ d
+    → (n : ℕ) → option_or o (then_some all e) ≡ Some n → n ≤ d
+needed_le (Some k) all e d h g n q = h n q
+needed_le None true e d h g n q = let same : e ≡ n = cc in omega arith
+needed_le None false e d h g n q = cc
 
-needed_le : (b all : Bool) (n e d : ℕ) → n ≤ d → e ≤ d → cond b n (cond all e 0) ≤ d
-needed_le true all n e d h g = h
-needed_le false true n e d h g = g
-needed_le false false n e d h g = omega arith
-
-module _ {p : Progress} {s : CodeStep} {before after : List ℕ} {x : Dock} {k : ℕ}
-    (drove : Follows p.dock s before (record { refusal = k; dock = x }) after) where
+module _ {p : Progress} {s : CodeStep} {before after : List ℕ} {r : Result Dock ℕ} {x : Dock}
+    (x-is : x ≡ dock_after p.dock r) (drove : Follows p.dock s before r after) where
   module _ (m : ℕ) (cards : List ℕ) (steps : List Step) (v : Tracks m cards steps p before) (low : (run m cards steps empty_dock).ended < most_cycles) where
     abbrev old : ModelDock
     old = run m cards steps empty_dock
@@ -121,7 +118,7 @@ module _ {p : Progress} {s : CodeStep} {before after : List ℕ} {x : Dock} {k :
     new = run m cards (steps ++ (step_of s ∷ [])) empty_dock
 
     new_shows : ShowsDock m cards new x after
-    new_shows = rw (run_snoc m cards steps (step_of s) empty_dock) (drove.follows m cards old v.shows).1
+    new_shows = rw (run_snoc m cards steps (step_of s) empty_dock, x-is) (drove.follows m cards old v.shows).1
 
     counted : (old.ended ≤ new.ended) × (new.ended ≤ suc old.ended)
     counted = rw (run_snoc m cards steps (step_of s) empty_dock) (step_counted m cards old (step_of s))
@@ -131,11 +128,11 @@ module _ {p : Progress} {s : CodeStep} {before after : List ℕ} {x : Dock} {k :
 
     outcome_noted :
         outcome m cards (steps ++ (step_of s ∷ [])) empty_dock
-        ≡ cond (noted p (step_of s) x).complete (complete (noted p (step_of s) x).needed) unfinished
+        ≡ outcome_in (noted p (step_of s) x).needed
     outcome_noted =
         outcome_snoc m cards steps (step_of s) empty_dock
         ∙ rw (v.outcome_is, new_shows.frames, new_shows.delivered, new_ended)
-        (or_later_noted p.complete (all_delivered cards new) p.needed new.ended)
+        (or_later_noted p.needed (all_delivered cards new) new.ended)
 
     peak_noted : (noted p (step_of s) x).peak ≡ peak m cards (steps ++ (step_of s ∷ [])) empty_dock
     peak_noted = rw (v.peak_is, v.shows.broken, v.shows.holds) (sym (peak_snoc m cards steps (step_of s) empty_dock))
@@ -145,17 +142,11 @@ module _ {p : Progress} {s : CodeStep} {before after : List ℕ} {x : Dock} {k :
         record {
           shows = new_shows;
           outcome_is = outcome_noted;
-          none_needed = not_needed p.complete (leb x.frames x.delivered) p.needed x.ended v.none_needed;
           needed_few =
-              needed_le p.complete (leb x.frames x.delivered) p.needed x.ended new.ended (omega (arith, v.needed_few, counted))
-              (omega (arith, new_ended));
+              needed_le p.needed (leb x.frames x.delivered) x.ended new.ended
+              (λ n q. omega (arith, v.needed_few n q, counted)) (omega (arith, new_ended));
           peak_is = peak_noted;
         }
 
-  -- the same, with each part as the code finds it
-  pub noted_tracked :
-      {b end : Bool} {n h most : ℕ} → b ≡ (p.complete || leb x.frames x.delivered)
-      → n ≡ cond p.complete p.needed (cond (leb x.frames x.delivered) x.ended 0)
-      → end ≡ is_end (step_of s) → h ≡ cond (end && not p.dock.broken) p.dock.holding 0 → most ≡ max p.peak h
-      → Tracked p (step_of s) before (record { dock = x; complete = b; needed = n; peak = most }) after
-  noted_tracked eb en ee eh ek = rw (eb, en, ek, eh, ee) (record { follows = noted_tracks })
+  pub noted_tracked : Tracked p (step_of s) before (noted p (step_of s) x) after
+  noted_tracked = record { follows = noted_tracks }

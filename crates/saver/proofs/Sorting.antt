@@ -6,7 +6,6 @@ use mathlib.Core.Bool.{true, false, and-false}
 use mathlib.Core.List.{List, [], ◌∷◌, ◌++◌, append-nil, map}
 use native.Mathlib.Omega.{arith}
 use native.Mathlib.Numerals.{add-one}
-use native.Mathlib.Nat.{le_antisymm}
 use lib.Dec.{eqb}
 use lib.ListN.{length, get_or, set, replicate, length-append, length-replicate, get_or-map}
 use borrow.Author.Tests.{eq-eqb, ne_eqb}
@@ -25,7 +24,7 @@ use Rattle.counting.proofs.Parts.{map_set}
 
 -- `entries` has what each card writes of those frames; the n others stand at the front of the new tables.
 pub record Sorting (s : Saver) (entries : List Position) (cards : List ℕ) (positions : List Position) (n i : ℕ) : Type 0 where
-  pub inside : i ≤ s.waiting
+  pub fewer : n ≤ i
   pub count : n ≡ length (left s.card s.card i)
   pub cards_left : cards ≡ written (left s.card s.card i) (replicate max_pool 0)
   pub positions_left : positions ≡ map position (written (left s.card (numbers s.position) i) (replicate max_pool 0))
@@ -35,7 +34,7 @@ pub card_below : {s : Saver} → Formed s → (i : ℕ) → i < s.waiting → ge
 card_below f i l = omega (arith, f.each_card i l, f.few_cards)
 
 pub sort_first : {s : Saver} → Sorting s (replicate max_cards (position none)) (replicate max_pool 0) (replicate max_pool (position 0)) 0 0
-sort_first = record { inside = omega arith; count = refl; cards_left = refl; positions_left = refl; entries_so_far = refl }
+sort_first = record { fewer = omega arith; count = refl; cards_left = refl; positions_left = refl; entries_so_far = refl }
 
 -- what a frame more leaves of a table's values
 left_keeps : (c v : List ℕ) (i : ℕ) → is_oldest c i ≡ false → left c v (i + 1) ≡ left c v i ++ (get_or v i 0 ∷ [])
@@ -75,10 +74,6 @@ module _ {s : Saver} {entries positions : List Position} {cards : List ℕ} {n i
   writing j k = writes k s.card numbered j
 
   module _ (l : i < s.waiting) where
-    -- the next place of the new tables
-    pub place_below : n < max_pool
-    place_below = omega (arith, v.count, left_no_longer s.card s.card i, f.fits_pool, f.small_pool)
-
     -- the entry of the frame's card is still free exactly when the frame is the first of its card
     entry_oldest : eqb (get_or entries card (position 0)).0 none ≡ is_oldest s.card i
     entry_oldest =
@@ -87,7 +82,7 @@ module _ {s : Saver} {entries positions : List Position} {cards : List ℕ} {n i
           get_or-map position (tabulate max_cards (writing i)) card 0,
           get_or_tabulate max_cards (writing i) card 0 (card_below f i l),
         )
-        (writes_none card s.card numbered i (λ j g. omega (arith, f.each_position j (omega (arith, v.inside)), f.few_taken)))
+        (writes_none card s.card numbered i (λ j g. omega (arith, f.each_position j (omega arith), f.few_taken)))
 
     kept :
         (values table : List ℕ) → is_oldest s.card i ≡ false → table ≡ written (left s.card values i) (replicate max_pool 0)
@@ -107,7 +102,7 @@ module _ {s : Saver} {entries positions : List Position} {cards : List ℕ} {n i
     sort_writes e =
         let o : is_oldest s.card i ≡ true = sym entry_oldest ∙ eq-eqb (get_or entries card (position 0)).0 none e in
         record {
-          inside = omega arith;
+          fewer = omega (arith, v.fewer);
           count = rw (left_drops s.card s.card i o) v.count;
           cards_left = rw (left_drops s.card s.card i o) v.cards_left;
           positions_left = rw (left_drops s.card numbered i o) v.positions_left;
@@ -119,7 +114,7 @@ module _ {s : Saver} {entries positions : List Position} {cards : List ℕ} {n i
     sort_keeps e =
         let o : is_oldest s.card i ≡ false = sym entry_oldest ∙ ne_eqb (get_or entries card (position 0)).0 none e in
         record {
-          inside = omega arith;
+          fewer = omega (arith, v.fewer);
           count = rw (left_keeps s.card s.card i o) (omega (arith, v.count, length-append (left s.card s.card i) (card ∷ [])));
           cards_left = kept s.card cards o v.cards_left;
           positions_left =
@@ -132,7 +127,7 @@ module _ {s : Saver} {entries positions : List Position} {cards : List ℕ} {n i
         }
 
 -- All frames looked at: the new record is the record after the cycle.
-pub sorted : {s : Saver} {entries positions : List Position} {cards : List ℕ} {n i : ℕ} → Sorting s entries cards positions n i → s.waiting ≤ i
+pub sorted : {s : Saver} {entries positions : List Position} {cards : List ℕ} {n i : ℕ} → Sorting s entries cards positions n i → i ≡ s.waiting
     → record {
       refusal = 0;
       cycle = cycle (s.made.0 + 1);
@@ -150,6 +145,4 @@ pub sorted : {s : Saver} {entries positions : List Position} {cards : List ℕ} 
           };
     }
     ≡ cycle_on s
-sorted {s} v h =
-    let e : _ ≡ s.waiting = le_antisymm v.inside h in
-    rw (v.count, v.cards_left, v.positions_left, v.entries_so_far, e)
+sorted v e = rw (v.count, v.cards_left, v.positions_left, v.entries_so_far, e)

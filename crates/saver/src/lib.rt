@@ -10,10 +10,12 @@ mod steps;
 
 use counting::{Cycle, Position};
 use header::limits;
+use refusals::Refusal;
 
 // The frames in the pool stand at the first places of `card` and `position`, oldest first; the places after them are 0.
+// C keeps the record between calls: that is why it has two tables of fixed size, with the number of waiting frames beside them.
 #[repr(C)]
-#[derive(Clone, Copy)]
+#[derive(Clone, Copy, PartialEq, Eq)]
 pub struct Saver {
     pub cards: u8,
     pub pool: u16,
@@ -33,8 +35,10 @@ pub struct Saver {
 #[repr(C)]
 #[derive(Clone, Copy)]
 pub struct Answer {
+    // a number, as C has no Result
     pub refusal: u8,
     pub cycle: Cycle,
+    // numbers, as C has no Option
     pub written: [Position; limits::CARDS],
     pub saver: Saver,
 }
@@ -46,21 +50,22 @@ impl Saver {
         ensures given { Given result.saver }
     {
         if cards < 1 {
-            return steps::no_saver(4);
+            return steps::no_saver(Refusal::CardCount);
         }
         if limits::MAX_CARDS < cards {
-            return steps::no_saver(4);
+            return steps::no_saver(Refusal::CardCount);
         }
         if pool < 1 {
-            return steps::no_saver(5);
+            return steps::no_saver(Refusal::PoolSize);
         }
         if limits::MAX_POOL < pool {
-            return steps::no_saver(5);
+            return steps::no_saver(Refusal::PoolSize);
         }
         steps::quiet(steps::empty(cards, pool, false))
     }
 
     // The next frame, on this card. A cycle is made first if the pool is full.
+    // C hands the record in, so that `Given` stays a clause of this call and the next one: a type that holds it would ask more of callers.
     pub fn save(self, card: u8) -> Answer
         requires { Given self }
         ensures answer { result ≡ save_of self card }
@@ -68,13 +73,13 @@ impl Saver {
         ensures greedy { SaveFollows self card result }
     {
         if self.closing {
-            return steps::refused(15, self);
+            return steps::refused(Refusal::ClosingBegun, self);
         }
         if self.cards <= card {
-            return steps::refused(8, self);
+            return steps::refused(Refusal::NoSuchCard, self);
         }
         if limits::MAX_FRAMES <= self.taken {
-            return steps::refused(13, self);
+            return steps::refused(Refusal::SaverFull, self);
         }
         if self.waiting < self.pool {
             return steps::quiet(steps::enter(self, card));
@@ -90,7 +95,7 @@ impl Saver {
         ensures greedy { CloseFollows self result }
     {
         if self.waiting < 1 {
-            return steps::refused(14, self);
+            return steps::refused(Refusal::NothingWaiting, self);
         }
         self.closing = true;
         steps::one_cycle(self)

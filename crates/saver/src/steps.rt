@@ -1,53 +1,62 @@
 // The steps of a saver: an empty record, a frame that enters the pool, and one cycle.
 ghost use Rattle.std.specs.Prelude.{◌≡◌};
+ghost use Rattle.refusals.specs.Numbers.{number_of};
 ghost use Rattle.saver.specs.Calls.{new_saver, no_saver, refusal, quiet, entered, then_enters, cycle_on};
 ghost use Rattle.saver.specs.Formed.{Formed, Room};
 
 use crate::{Answer, Saver};
 use counting::{Cycle, Position};
 use header::limits;
+use refusals::Refusal;
 
-// The entry of a card that writes nothing.
+// The number of a call that is not refused. C has no Result: an answer has a refusal's number in each case.
+const NOT_REFUSED: u8 = 0;
+
+// The entry of a card that writes nothing. C has no Option: an answer has a number for each card.
 const NONE: u16 = 65535;
 
 pub(crate) fn empty(cards: u8, pool: u16, closing: bool) -> Saver
     ensures { result ≡ new_saver cards pool closing }
 {
     Saver {
-        cards: cards,
-        pool: pool,
+        cards,
+        pool,
         taken: 0,
         made: Cycle(0),
         waiting: 0,
-        closing: closing,
+        closing,
         card: [0u8; limits::POOL],
         position: [Position(0); limits::POOL],
     }
-}
-
-pub(crate) fn refused(number: u8, saver: Saver) -> Answer
-    ensures { result ≡ refusal number saver }
-{
-    Answer {
-        refusal: number,
-        cycle: Cycle(0),
-        written: [Position(NONE); limits::CARDS],
-        saver: saver,
-    }
-}
-
-// A new saver that is refused: a record that takes no frame.
-pub(crate) fn no_saver(number: u8) -> Answer
-    ensures { result ≡ refusal number no_saver }
-{
-    refused(number, empty(1, 1, true))
 }
 
 // A call that makes no cycle.
 pub(crate) fn quiet(saver: Saver) -> Answer
     ensures { result ≡ quiet saver }
 {
-    refused(0, saver)
+    Answer {
+        refusal: NOT_REFUSED,
+        cycle: Cycle(0),
+        written: [Position(NONE); limits::CARDS],
+        saver,
+    }
+}
+
+// A call that is refused.
+pub(crate) fn refused(ground: Refusal, saver: Saver) -> Answer
+    ensures { result ≡ refusal (number_of ground) saver }
+{
+    Answer {
+        refusal: u8::from(ground),
+        ..quiet(saver)
+    }
+}
+
+// A new saver that is refused: a record that takes no frame.
+pub(crate) fn no_saver(ground: Refusal) -> Answer
+    ensures { result ≡ refusal (number_of ground) no_saver }
+{
+    refused(ground, empty(1, 1, true))
 }
 
 // The next frame enters the pool.
@@ -55,7 +64,7 @@ pub(crate) fn enter(mut saver: Saver, card: u8) -> Saver
     requires { Room saver }
     ensures { result ≡ entered saver card }
 {
-    let i = saver.waiting as usize;
+    let i = usize::from(saver.waiting);
     saver.card[i] = card;
     saver.position[i] = Position(saver.taken);
     saver.waiting += 1;
@@ -74,18 +83,16 @@ pub(crate) fn one_cycle(saver: Saver) -> Answer
     let mut card = [0u8; limits::POOL];
     let mut position = [Position(0); limits::POOL];
     let mut left: u16 = 0;
-    let mut i: u16 = 0;
-    while i < saver.waiting {
-        let place = i as usize;
-        let c = saver.card[place];
-        let p = saver.position[place];
-        let k = c as usize;
+    // by place, for speed: a zip of the two tables would test two ends for each frame
+    for i in 0..usize::from(saver.waiting) {
+        let c = saver.card[i];
+        let p = saver.position[i];
+        let k = usize::from(c);
         let entry = written[k].0;
-        i += 1;
         if entry == NONE {
             written[k] = p;
         } else {
-            let to = left as usize;
+            let to = usize::from(left);
             card[to] = c;
             position[to] = p;
             left += 1;
@@ -93,18 +100,15 @@ pub(crate) fn one_cycle(saver: Saver) -> Answer
     }
     let made = Cycle(saver.made.0 + 1);
     Answer {
-        refusal: 0,
+        refusal: NOT_REFUSED,
         cycle: made,
-        written: written,
+        written,
         saver: Saver {
-            cards: saver.cards,
-            pool: saver.pool,
-            taken: saver.taken,
-            made: made,
+            made,
             waiting: left,
-            closing: saver.closing,
-            card: card,
-            position: position,
+            card,
+            position,
+            ..saver
         },
     }
 }

@@ -1,4 +1,5 @@
 pub mod Main
+pub mod Largest
 pub mod OneFrame
 pub mod SubLists
 pub mod Ranks

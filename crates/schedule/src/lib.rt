@@ -10,15 +10,5 @@ use counting::Cycle;
 pub fn cycles_in(plan: &[u16]) -> Cycle
     ensures { result.0 ≡ cycles_in plan.now }
 {
-    let n = plan.len();
-    let mut top: u16 = 0;
-    let mut i: usize = 0;
-    while i < n {
-        let c = plan[i];
-        i += 1;
-        if top < c {
-            top = c;
-        }
-    }
-    Cycle(top)
+    Cycle(plan.iter().copied().max().unwrap_or(0))
 }

@@ -1,117 +1,124 @@
 // A dock written anew from document 01, "The dock", and request 2026-05, for lists of up to 8 frames on 3 cards.
-// Steps are numbered: for a list of n frames, 0 to n - 1 read a position, the next n drop one, and every number from 2n on ends the cycle.
-use crate::lists::{at, sum, with};
-use crate::tickets::Case;
-use std::num::wrapping_add_u64;
+use crate::tickets::{CARDS, Card, Case, FRAMES};
 
-pub(crate) const END: u64 = 99;
+// A step: a frame is read, or dropped, by its position; or the cycle ends.
+#[derive(Clone, Copy, Debug)]
+pub(crate) enum Step {
+    Read(u16),
+    Drop(u16),
+    End,
+}
 
-// What the dock keeps, with the list of 1 for each frame that is held, and of 1 for each card that has read in this cycle, and whether any
-// has; beside it the cycles needed to hand everything over, 0 before that, and the peak.
+// What the dock keeps: of each frame whether it is held, of each card whether it has read in this cycle, and whether any has; beside it the cycles
+// that were needed to hand everything over, 0 before that, and the peak.
 #[derive(Clone, Copy)]
 pub(crate) struct Bench {
     pub(crate) broken: bool,
     pub(crate) reading: bool,
-    pub(crate) delivered: u64,
-    pub(crate) ended: u64,
-    pub(crate) held: u64,
-    pub(crate) read: u64,
-    pub(crate) needed: u64,
-    pub(crate) peak: u64,
+    pub(crate) delivered: usize,
+    pub(crate) ended: usize,
+    pub(crate) held: [bool; FRAMES],
+    pub(crate) read: [bool; CARDS],
+    needed: usize,
+    pub(crate) peak: usize,
 }
 
-pub(crate) fn empty() -> Bench {
-    Bench {
-        broken: false,
-        reading: false,
-        delivered: 0,
-        ended: 0,
-        held: 0,
-        read: 0,
-        needed: 0,
-        peak: 0,
-    }
-}
-
-fn read_frame(b: Bench, card: u64, p: u64) -> Bench {
-    let mut after = b;
-    if at(b.read, card) == 1 {
-        after.broken = true;
-    } else {
-        after.reading = true;
-        after.read = with(b.read, card, 1);
-        if b.delivered <= p {
-            after.held = with(b.held, p, 1);
+impl Bench {
+    pub(crate) fn new() -> Bench {
+        Bench {
+            broken: false,
+            reading: false,
+            delivered: 0,
+            ended: 0,
+            held: [false; FRAMES],
+            read: [false; CARDS],
+            needed: 0,
+            peak: 0,
         }
     }
-    after
-}
 
-// The end of a cycle: what it finds held counts for the peak, also where that is too much; while the next of the frames is held, it is handed
-// over.
-fn end_cycle(b: Bench, c: Case) -> Bench {
-    let mut after = b;
-    let found = sum(b.held);
-    if b.peak < found {
-        after.peak = found;
+    // How many frames are held.
+    pub(crate) fn holding(&self) -> usize {
+        self.held.iter().filter(|held| **held).count()
     }
-    if c.m < found {
-        after.broken = true;
-        return after;
+
+    // The cycles needed, once everything is handed over.
+    pub(crate) fn needed(&self, case: &Case) -> Option<usize> {
+        (case.frames <= self.delivered).then_some(self.needed)
     }
-    let mut p: u64 = 0;
-    while p < 8 {
-        if (p == after.delivered) & (at(after.held, p) == 1) {
-            after.held = with(after.held, p, 0);
-            after.delivered = p + 1;
+
+    fn read_frame(&mut self, p: usize, card: Card) {
+        if self.read[card.place()] {
+            self.broken = true;
+            return;
         }
-        p += 1;
+        self.reading = true;
+        self.read[card.place()] = true;
+        if self.delivered <= p && p < FRAMES {
+            self.held[p] = true;
+        }
     }
-    after.ended = wrapping_add_u64(b.ended, 1);
-    after.reading = false;
-    after.read = 0;
-    if (b.delivered < c.n) & (c.n <= after.delivered) {
-        after.needed = after.ended;
-    }
-    after
-}
 
-// One step on the list's dock with a pool of m.
-pub(crate) fn step(b: Bench, c: Case, number: u64) -> Bench {
-    let mut after = b;
-    if !b.broken {
-        if number < c.n {
-            after = read_frame(b, at(c.cards, number), number);
-        } else {
-            let p = number - c.n;
-            if c.n <= p {
-                after = end_cycle(b, c);
-            } else {
-                if b.reading {
-                    after.broken = true;
-                } else {
-                    after.held = with(b.held, p, 0);
-                }
+    fn drop_frame(&mut self, p: usize) {
+        if self.reading {
+            self.broken = true;
+        } else if p < FRAMES {
+            self.held[p] = false;
+        }
+    }
+
+    // The end of a cycle: what it finds held counts for the peak, also where that is too much; while the next of the frames is held, it is handed
+    // over.
+    fn end_cycle(&mut self, case: &Case) {
+        let found = self.holding();
+        self.peak = self.peak.max(found);
+        if usize::from(case.pool) < found {
+            self.broken = true;
+            return;
+        }
+        let before = self.delivered;
+        for (p, held) in self.held.iter_mut().enumerate() {
+            if p == self.delivered && *held {
+                *held = false;
+                self.delivered = p + 1;
             }
         }
+        self.ended = self.ended.saturating_add(1);
+        self.reading = false;
+        self.read = [false; CARDS];
+        if before < case.frames && case.frames <= self.delivered {
+            self.needed = self.ended;
+        }
     }
-    after
+
+    // One step on the list's dock with its pool.
+    pub(crate) fn step(&mut self, case: &Case, step: Step) {
+        if self.broken {
+            return;
+        }
+        match step {
+            Step::Read(p) => {
+                if let Some(card) = case.cards().get(usize::from(p)) {
+                    self.read_frame(usize::from(p), *card);
+                }
+            }
+            Step::Drop(p) => self.drop_frame(usize::from(p)),
+            Step::End => self.end_cycle(case),
+        }
+    }
 }
 
 // A plan's run: its cycles from 1 to T, in each the reads of its frames in list order and then its end.
-pub(crate) fn run(c: Case, plan: u64, t: u64) -> Bench {
-    let mut b = empty();
-    let mut made: u64 = 0;
-    while made < t {
-        made += 1;
-        let mut p: u64 = 0;
-        while p < c.n {
-            if at(plan, p) == made {
-                b = step(b, c, p);
+pub(crate) fn run(case: &Case, cycles: &[u16; FRAMES], t: u16) -> Bench {
+    let mut dock = Bench::new();
+    for made in 1..=t {
+        for p in 0..case.frames {
+            if cycles[p] == made {
+                // It fits: `try_from` would be a Result that is never an Err.
+                dock.step(case, Step::Read(p as u16));
             }
-            p += 1;
         }
-        b = step(b, c, END);
+        dock.step(case, Step::End);
     }
-    b
+    dock
 }

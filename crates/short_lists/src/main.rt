@@ -4,6 +4,8 @@
 // one frame more, does to T. Writes what was covered and what differed.
 #![tactic(auto)]
 
+ghost use Rattle.std.specs.Prelude.{◌≤◌};
+
 mod bench;
 mod greedy;
 mod joins;
@@ -19,77 +21,92 @@ mod steps;
 mod tickets;
 mod verdicts;
 
+use greedy::Schedule;
+use report::{Report, Topic};
 use std::io;
-use tickets::Case;
+use tickets::{Card, Case, FRAMES, Mode, Ticket};
 
-// The planner's answer to a ticket, as greedy.rt writes a schedule: the plan, with the zeros that were lent behind it, and T, or 127 for a
-// refusal.
-fn planned(ticket: &[u8]) -> u64 {
-    let mut buffer = [0u16; 8];
-    let answer = planner::plan(ticket, &mut buffer);
-    let t = match answer {
-        planner::Answer::Planned(t) => t.0 as u64,
-        planner::Answer::Refused(_) => 127,
-    };
-    lists::with(lists::from_array(buffer), greedy::MADE, t)
+// The planner's answer to a ticket: the plan, with the zeros that were lent behind it, and T; or the number of a refusal.
+fn planned(ticket: &[u8]) -> Result<Schedule, u8> {
+    let mut cycles = [0; FRAMES];
+    let t = planner::plan(ticket, &mut cycles).map_err(u8::from)?;
+    Ok(Schedule { cycles, made: t.0 })
 }
 
-// T of a plan, 127 for a refusal.
-fn cycles(ticket: &[u8]) -> u64 {
-    lists::at(planned(ticket), greedy::MADE)
+// T of a plan, if there is one.
+fn cycles(ticket: &[u8]) -> Option<u16> {
+    planned(ticket).ok().map(|plan| plan.made)
+}
+
+// What else is compared of a ticket that is planned.
+fn compare_plan<P: Print>(
+    report: &mut Report<'_, P>,
+    ticket: &Ticket,
+    plan: &Schedule,
+) -> io::Result<()> {
+    let case = &ticket.case;
+    if case.is_save() {
+        saves::compare_saver(report, case)?;
+    }
+    steps::compare_all(report, ticket, plan.made)?;
+    schedules::compare_fewest(report, ticket, plan)?;
+    shifts::compare_all(report, case, plan.made)
 }
 
 // One ticket: its plan against greedy_writing; then what else is compared of it. After differences that were written out comes their ticket.
-fn one_ticket(rt: &impl Print, counts: &mut report::Counts, c: Case) -> io::Result<()> {
-    let before = report::add(counts, report::WRITTEN, 0);
-    let text = tickets::text_of(c);
-    let ticket = &text[0..tickets::bytes_of(c.n)];
-    let plan = planned(ticket);
-    report::compare(
-        rt,
-        counts,
-        report::PLANS,
-        report::NO_KIND,
-        0,
-        greedy::schedule(c),
+fn one_ticket<P: Print>(report: &mut Report<'_, P>, ticket: &Ticket) -> io::Result<()> {
+    let before = report.written;
+    let plan = planned(ticket.bytes());
+    report.compare(
+        Topic::Plans,
+        "the list",
+        Ok(greedy::own_plan(&ticket.case)),
         plan,
     )?;
-    if c.mode == tickets::SAVE {
-        saves::compare_saver(rt, counts, c)?;
+    if let Ok(plan) = plan {
+        compare_plan(report, ticket, &plan)?;
     }
-    steps::compare_all(rt, counts, ticket, c, plan)?;
-    schedules::compare_fewest(rt, counts, ticket, c, plan)?;
-    shifts::compare_all(rt, counts, c, lists::at(plan, greedy::MADE))?;
-    if report::add(counts, report::WRITTEN, 0) != before {
-        rt.write_all(ticket)?;
+    if report.written != before {
+        report.write(ticket.bytes())?;
     }
     Ok(())
 }
 
-// All lists of 0 to 8 frames, each with pools 1 to 4 in the three modes; then the joined ones.
-fn main(rt: HostRuntime) -> io::Result<()> {
-    let mut counts = [0u64; 64];
-    let mut n: u64 = 0;
-    while n < 9 {
-        let total = lists::how_many(n, 2);
-        let mut number: u64 = 0;
-        while number < total {
-            report::add(&mut counts, report::LISTS, 1);
-            let mut turn: u64 = 0;
-            while turn < 12 {
-                let c = Case {
-                    mode: turn % 3,
-                    m: turn / 3 + 1,
-                    n: n,
-                    cards: lists::numbered(number, 2),
-                };
-                one_ticket(&rt, &mut counts, c)?;
-                turn += 1;
-            }
-            number += 1;
+// A list of so many frames with pools 1 to 4 in the three modes.
+fn one_list<P: Print>(
+    report: &mut Report<'_, P>,
+    frames: usize,
+    cards: [Card; FRAMES],
+) -> io::Result<()>
+    requires { frames ≤ 8 }
+{
+    report.count_list();
+    for pool in 1..5 {
+        for mode in [Mode::Read, Mode::Save, Mode::SaveAndKeep] {
+            let case = Case {
+                mode,
+                pool,
+                frames,
+                cards,
+            };
+            one_ticket(report, &Ticket::new(case))?;
         }
-        n += 1;
     }
-    joins::compare_all(&rt, &mut counts)?;
-    report::summary(&rt, &counts)
+    Ok(())
+}
+
+// All lists of 0 to 8 frames; then the joined ones.
+fn main(rt: HostRuntime) -> io::Result<()> {
+    let mut report = Report::new(&rt);
+    for frames in 0..9 {
+        for number in 0..lists::how_many(frames, 3) {
+            one_list(
+                &mut report,
+                frames,
+                lists::numbered(number, 3).map(Card::new),
+            )?;
+        }
+    }
+    joins::compare_all(&mut report)?;
+    report.summary()
 }

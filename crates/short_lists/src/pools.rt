@@ -1,50 +1,36 @@
 // The count in the pool rule, for each frame of a schedule, against the count in rules.rt.
-use crate::tickets::Case;
-use crate::{greedy, lists, report, rules, tickets};
-use pool_counts::backlog::backlog;
+ghost use Rattle.std.specs.Prelude.{◌<◌, ◌≤◌, length};
+ghost use Rattle.header.specs.Limits.{max_frames};
+
+use crate::report::{Report, Topic};
+use crate::rules;
+use crate::rules::Count;
+use crate::tickets::{Case, FRAMES};
+use pool_counts::backlog;
 use std::io;
 
-// The product's count for frame i of up to 8, as rules.rt has it; 99 where there is no such frame.
-fn counted(save: bool, plan: &[u16], i: usize, m: u16) -> u64 {
-    let n = plan.len();
-    let mut answer: u64 = 99;
-    if i < n {
-        if n <= 8 {
-            let found = backlog(save, plan, i, m);
-            answer = lists::list(found.count as u64, found.looked as u64, 0, 0, 0, 0);
-        }
+// The product's count for frame i.
+fn product_count(case: &Case, plan: &[u16], i: usize) -> Count
+    requires { (i < length plan.now) × (length plan.now ≤ max_frames) }
+{
+    let found = backlog::backlog(case.is_save(), plan, i, u16::from(case.pool));
+    Count {
+        count: found.count,
+        looked: found.looked,
     }
-    answer
 }
 
-// A difference is written out with the schedule, which has the frame's position behind 8 cycles.
-pub(crate) fn compare_counts(
-    rt: &impl Print,
-    counts: &mut report::Counts,
-    c: Case,
-    plan: u64,
+// A difference is written out with the schedule and the frame's position.
+pub(crate) fn compare_counts<P: Print>(
+    report: &mut Report<'_, P>,
+    case: &Case,
+    cycles: &[u16; FRAMES],
 ) -> io::Result<()> {
-    let cycles = lists::to_array(plan);
-    let n = (c.n % 9) as usize;
-    let mut i: usize = 0;
-    while i < n {
-        let position = i as u64;
-        let found = counted(
-            c.mode == tickets::SAVE,
-            &cycles[0..n],
-            i,
-            (c.m % 100) as u16,
-        );
-        report::compare(
-            rt,
-            counts,
-            report::POOL_COUNTS,
-            report::NO_KIND,
-            lists::with(plan, greedy::MADE, position),
-            rules::own_count(c, plan, position),
-            found,
-        )?;
-        i += 1;
+    let plan = &cycles[..case.frames];
+    for i in 0..case.frames {
+        let wanted = rules::own_count(case, cycles, i);
+        let found = product_count(case, plan, i);
+        report.compare(Topic::PoolCounts, (plan, i), wanted, found)?;
     }
     Ok(())
 }

@@ -1,106 +1,115 @@
 // How far one frame shifts T (request 2026-08): in reads and saves of up to 7 frames, each frame put on every other card, and a frame of every card put in
 // at every place.
-use crate::runs::bit;
-use crate::tickets::Case;
-use crate::{cycles, lists, report, tickets};
+ghost use Rattle.std.specs.Prelude.{◌≤◌, ◌<◌};
+
+use crate::cycles;
+use crate::report::{Report, Topic};
+use crate::tickets::{CARDS, Card, Case, Mode, Ticket};
 use std::io;
-use std::num::wrapping_add_u64;
 
-// The list with a frame more at a place: those behind it stand one place later.
-fn with_frame(cards: u64, place: u64, card: u64) -> u64 {
-    let before = 7 * (place % 8);
-    let behind = cards >> before;
-    (cards ^ (behind << before)) | ((card % 128) << before) | (behind << (before + 7))
+// A shift of T by at most one cycle, from fewer cycles to more.
+#[derive(Clone, Copy, PartialEq, Eq)]
+pub(crate) enum Shift {
+    Fewer,
+    Equal,
+    More,
 }
 
-// T of the same ticket with that many frames and those cards.
-fn cycles_with(c: Case, n: u64, cards: u64) -> u64 {
-    let text = tickets::text_of(Case {
-        mode: c.mode,
-        m: c.m,
-        n: n,
-        cards: cards,
-    });
-    cycles(&text[0..tickets::bytes_of(n)])
-}
-
-// A shift from t cycles to u: 0 for one fewer, 1 for as many, 2 for one more, and 3 for others, a refusal among them.
-fn shift(t: u64, u: u64) -> u64 {
-    if t == 127 {
-        3
-    } else if wrapping_add_u64(u, 1) == t {
-        0
+// The shift from t cycles to u, where it is one of the three.
+fn shift_of(t: u16, u: u16) -> Option<Shift> {
+    if u.saturating_add(1) == t {
+        Some(Shift::Fewer)
     } else if u == t {
-        1
-    } else if u == wrapping_add_u64(t, 1) {
-        2
+        Some(Shift::Equal)
+    } else if u == t.saturating_add(1) {
+        Some(Shift::More)
     } else {
-        3
+        None
     }
 }
 
-// One shift, which is at least as much as the least that is allowed.
-fn compare_shift(
-    rt: &impl Print,
-    counts: &mut report::Counts,
-    topic: usize,
-    item: u64,
-    least: u64,
-    kinds: [usize; 3],
-    shift: u64,
-) -> io::Result<()> {
-    let wrong = (shift < least) | (2 < shift);
-    let kind = if wrong {
-        report::NO_KIND
-    } else {
-        kinds[(shift % 3) as usize]
-    };
-    report::compare(rt, counts, topic, kind, item, 0, bit(wrong))
+// The same ticket with one frame on another card.
+fn on_card(case: &Case, place: usize, card: Card) -> Case
+    requires { place < 8 }
+{
+    let mut other = *case;
+    other.cards[place] = card;
+    other
 }
 
-// All shifts of one ticket of t cycles. The item is three times the place, and the card.
-pub(crate) fn compare_all(
-    rt: &impl Print,
-    counts: &mut report::Counts,
-    c: Case,
-    t: u64,
+// The ticket with a frame more at a place: those behind it stand one place later.
+fn with_frame(case: &Case, place: usize, card: Card) -> Case
+    requires { (place ≤ case.now.frames) × (case.now.frames < 8) }
+{
+    let mut longer = *case;
+    longer.frames += 1;
+    longer.cards[place..].rotate_right(1);
+    longer.cards[place] = card;
+    longer
+}
+
+// The shift from t cycles to those of another ticket.
+fn shift_to(t: u16, other: &Case) -> Option<Shift> {
+    let ticket = Ticket::new(*other);
+    match cycles(ticket.bytes()) {
+        Some(u) => shift_of(t, u),
+        None => None,
+    }
+}
+
+// A frame put on another card: T shifts by at most one cycle.
+fn compare_other_card<P: Print>(
+    report: &mut Report<'_, P>,
+    t: u16,
+    place: usize,
+    other: &Case,
 ) -> io::Result<()> {
-    if (7 < c.n) | (c.mode == tickets::SAVE_AND_KEEP) {
+    let shift = shift_to(t, other);
+    if let Some(found) = shift {
+        report.other_card.count(found);
+    }
+    let cards = other.cards;
+    report.compare(Topic::OtherCard, (place, cards), true, shift.is_some())
+}
+
+// A frame more: T stays, or is one more.
+fn compare_frame_more<P: Print>(
+    report: &mut Report<'_, P>,
+    t: u16,
+    place: usize,
+    longer: &Case,
+) -> io::Result<()> {
+    let shift = shift_to(t, longer);
+    if let Some(found) = shift {
+        report.frame_more.count(found);
+    }
+    let cards = longer.cards;
+    let allowed = shift == Some(Shift::Equal) || shift == Some(Shift::More);
+    report.compare(Topic::FrameMore, (place, cards), true, allowed)
+}
+
+// All shifts of one ticket of t cycles.
+pub(crate) fn compare_all<P: Print>(
+    report: &mut Report<'_, P>,
+    case: &Case,
+    t: u16,
+) -> io::Result<()> {
+    if 7 < case.frames || case.mode == Mode::SaveAndKeep {
         return Ok(());
     }
-    let mut item: u64 = 0;
-    while item < 24 {
-        let place = item / 3;
-        let card = item % 3;
-        if (place < c.n) & (lists::at(c.cards, place) != card) {
-            let other = cycles_with(c, c.n, lists::with(c.cards, place, card));
-            compare_shift(
-                rt,
-                counts,
-                report::OTHER_CARD,
-                item,
-                0,
-                [report::FEWER, report::EQUAL, report::MORE],
-                shift(t, other),
-            )?;
+    for place in 0..8 {
+        for number in 0..CARDS {
+            // It fits: `try_from` would be a Result that is never an Err.
+            let card = Card::new(number as u8);
+            if place < case.frames && case.cards[place] != card {
+                let other = on_card(case, place, card);
+                compare_other_card(report, t, place, &other)?;
+            }
+            if place <= case.frames {
+                let longer = with_frame(case, place, card);
+                compare_frame_more(report, t, place, &longer)?;
+            }
         }
-        if place <= c.n {
-            let longer = cycles_with(
-                c,
-                wrapping_add_u64(c.n, 1),
-                with_frame(c.cards, place, card),
-            );
-            compare_shift(
-                rt,
-                counts,
-                report::FRAME_MORE,
-                item,
-                1,
-                [report::NO_KIND, report::NONE_ADDED, report::ONE_ADDED],
-                shift(t, longer),
-            )?;
-        }
-        item += 1;
     }
     Ok(())
 }

@@ -1,137 +1,118 @@
 // The checker's verdict on a schedule, against the rules; and on the same with late cycles, for which the checker has another way.
-use crate::rules::Judged;
-use crate::tickets::Case;
-use crate::{bench, greedy, lists, report, rules, runs, tickets};
-use checker::Verdict;
+use crate::report::{Report, Topic};
+use crate::rules::{Fault, Judged};
+use crate::tickets::{Case, FRAMES, Mode, Ticket};
+use crate::{bench, rules};
 use std::io;
 
-// A verdict is a list of the kind of fault, its position and the peak. T, which may be up to 65,535, takes the last three of the 9 places.
-fn verdict(kind: u64, position: u64, t: u64, peak: u64) -> u64 {
-    lists::list(kind, position, peak, 0, 0, 0) | (t << 42)
+// A verdict: T and the peak of a valid plan, or a fault and its position.
+#[derive(Clone, Copy, Debug, PartialEq, Eq)]
+enum Verdict {
+    Valid(u16, usize),
+    Faulty(Fault, usize),
 }
 
-fn verdict_of(v: Verdict) -> u64 {
-    match v {
-        Verdict::Valid(t, peak) => verdict(rules::NO_FAULT, 0, t.0 as u64, peak as u64),
-        Verdict::NoCycle(p) => verdict(rules::NO_CYCLE, p.0 as u64, 0, 0),
-        Verdict::SharedCard(p) => verdict(rules::SHARED_CARD, p.0 as u64, 0, 0),
-        Verdict::Overfull(p) => verdict(rules::OVERFULL, p.0 as u64, 0, 0),
-        Verdict::Refused(number) => verdict(99, number as u64, 0, 0),
-    }
+// The checker's verdict on a plan, or the number of a refusal.
+fn checked(ticket: &[u8], plan: &[u16]) -> Result<Verdict, u8> {
+    let verdict = match checker::check(ticket, plan).map_err(u8::from)? {
+        checker::Verdict::Valid(t, peak) => Verdict::Valid(t.0, usize::from(peak)),
+        checker::Verdict::NoCycle(p) => Verdict::Faulty(Fault::NoCycle, usize::from(p.0)),
+        checker::Verdict::SharedCard(p) => Verdict::Faulty(Fault::SharedCard, usize::from(p.0)),
+        checker::Verdict::Overfull(p) => Verdict::Faulty(Fault::Overfull, usize::from(p.0)),
+    };
+    Ok(verdict)
 }
 
-// The checker's verdict on a schedule of n frames.
-fn checked(ticket: &[u8], n: u64, cycles: [u16; 8]) -> u64 {
-    let seen = checker::check(ticket, &cycles[0..(n % 9) as usize]);
-    verdict_of(seen)
-}
-
-// A list with a buffer for every frame.
-fn roomy(c: Case) -> Case {
-    let mut all = c;
-    all.m = c.n;
+// The same list with a buffer for every frame.
+fn roomy(case: &Case) -> Case {
+    let mut all = *case;
+    // It fits: `try_from` would be a Result that is never an Err.
+    all.pool = case.frames as u8;
     all
 }
 
 // The verdict that the rules give, with T as it is to be told. The peak of a read is that of the plan's run on a dock with a buffer for every
 // frame; that of a save is 0.
-fn wanted(c: Case, plan: u64, judged: Judged, t: u64) -> u64 {
-    if judged.kind != rules::NO_FAULT {
-        return verdict(judged.kind, judged.position, 0, 0);
+fn wanted(case: &Case, cycles: &[u16; FRAMES], judged: &Judged, t: u16) -> Verdict {
+    match judged.fault {
+        Some((fault, position)) => Verdict::Faulty(fault, position),
+        None => match case.mode {
+            Mode::Read => Verdict::Valid(t, bench::run(&roomy(case), cycles, judged.cycles).peak),
+            Mode::Save | Mode::SaveAndKeep => Verdict::Valid(t, 0),
+        },
     }
-    let mut peak: u64 = 0;
-    if c.mode == tickets::READ {
-        let run = bench::run(roomy(c), plan, judged.cycles);
-        peak = run.peak;
-    }
-    verdict(rules::NO_FAULT, 0, t, peak)
 }
 
-pub(crate) fn compare_verdict(
-    rt: &impl Print,
-    counts: &mut report::Counts,
-    ticket: &[u8],
-    c: Case,
-    plan: u64,
-    judged: Judged,
+pub(crate) fn compare_verdict<P: Print>(
+    report: &mut Report<'_, P>,
+    ticket: &Ticket,
+    cycles: &[u16; FRAMES],
+    judged: &Judged,
 ) -> io::Result<()> {
-    let kind = report::KINDS + ((judged.kind % 4) as usize);
-    report::compare(
-        rt,
-        counts,
-        report::VERDICTS,
-        kind,
+    report.count_schedule(judged.fault.map(|(fault, _)| fault));
+    let plan = &cycles[..ticket.case.frames];
+    let wanted = wanted(&ticket.case, cycles, judged, judged.cycles);
+    report.compare(
+        Topic::Verdicts,
         plan,
-        wanted(c, plan, judged, judged.cycles),
-        checked(ticket, c.n, lists::to_array(plan)),
+        Ok(wanted),
+        checked(ticket.bytes(), plan),
     )
 }
 
 // Request 2026-05: a read plan without cycle 0 or a shared card and cycle, which are all its faults where every frame has a buffer, is valid exactly
 // where the peak of its run there is within the pool.
-pub(crate) fn compare_peak(
-    rt: &impl Print,
-    counts: &mut report::Counts,
-    ticket: &[u8],
-    c: Case,
-    plan: u64,
+pub(crate) fn compare_peak<P: Print>(
+    report: &mut Report<'_, P>,
+    ticket: &Ticket,
+    cycles: &[u16; FRAMES],
 ) -> io::Result<()> {
-    if c.mode != tickets::READ {
+    let case = &ticket.case;
+    if case.mode != Mode::Read {
         return Ok(());
     }
-    let judged = rules::own_verdict(roomy(c), plan);
-    if judged.kind != rules::NO_FAULT {
+    let all = roomy(case);
+    let judged = rules::own_verdict(&all, cycles);
+    if judged.fault.is_some() {
         return Ok(());
     }
-    let run = bench::run(roomy(c), plan, judged.cycles);
-    let seen = checked(ticket, c.n, lists::to_array(plan));
-    report::compare(
-        rt,
-        counts,
-        report::PEAKS,
-        report::NO_KIND,
+    let peak = bench::run(&all, cycles, judged.cycles).peak;
+    let plan = &cycles[..case.frames];
+    let valid = matches!(checked(ticket.bytes(), plan), Ok(Verdict::Valid(_, _)));
+    report.compare(Topic::Peaks, plan, peak <= usize::from(case.pool), valid)
+}
+
+// A cycle up to 4 as a late one, over 4,096: 8,000 times as large, so that cycles are far apart. 0 stays 0, and of two cycles the same one is
+// larger as before.
+pub(crate) fn far(cycle: u16) -> u16 {
+    cycle % 5 * 8000
+}
+
+// The same by 65,531 later, so that cycles are close and the last is 65,535.
+pub(crate) fn close(cycle: u16) -> u16 {
+    match cycle % 5 {
+        0 => 0,
+        c => c + 65531,
+    }
+}
+
+// The verdict on a schedule of up to 4 frames with late cycles: only T is another.
+pub(crate) fn compare_late<P: Print, F: Fn(u16) -> u16>(
+    report: &mut Report<'_, P>,
+    ticket: &Ticket,
+    cycles: &[u16; FRAMES],
+    judged: &Judged,
+    late: F,
+) -> io::Result<()>
+    requires { F.IsAlwaysCallable late }
+{
+    let late_cycles = cycles.map(|cycle| late(cycle));
+    let plan = &late_cycles[..ticket.case.frames];
+    let wanted = wanted(&ticket.case, cycles, judged, late(judged.cycles));
+    report.compare(
+        Topic::LateVerdicts,
         plan,
-        runs::bit(run.peak <= c.m),
-        runs::bit(lists::at(seen, 0) == rules::NO_FAULT),
-    )
-}
-
-// A cycle up to 4 as a late one, over 4,096: 8,000 times as large, so that cycles are far apart, or 65,531 later, so that they are close and
-// the last is 65,535. 0 stays 0, and of two cycles the same one is larger as before.
-fn late(cycle: u64, close: bool) -> u16 {
-    let c = (cycle % 5) as u16;
-    if close & (0 < c) { c + 65531 } else { c * 8000 }
-}
-
-// The schedule with late cycles.
-fn late_cycles(plan: u64, close: bool) -> [u16; 8] {
-    let mut cycles = [0u16; 8];
-    let mut i: usize = 0;
-    while i < 8 {
-        cycles[i] = late(lists::at(plan, i as u64), close);
-        i += 1;
-    }
-    cycles
-}
-
-// The verdict on a schedule of up to 4 frames with late cycles: only T is another. A difference is written out with the schedule as it was, and 1
-// behind 8 cycles where the late ones are close.
-pub(crate) fn compare_late(
-    rt: &impl Print,
-    counts: &mut report::Counts,
-    ticket: &[u8],
-    c: Case,
-    plan: u64,
-    judged: Judged,
-    close: bool,
-) -> io::Result<()> {
-    report::compare(
-        rt,
-        counts,
-        report::LATE_VERDICTS,
-        report::NO_KIND,
-        lists::with(plan, greedy::MADE, runs::bit(close)),
-        wanted(c, plan, judged, late(judged.cycles, close) as u64),
-        checked(ticket, c.n, late_cycles(plan, close)),
+        Ok(wanted),
+        checked(ticket.bytes(), plan),
     )
 }

@@ -1,7 +1,7 @@
 -- Laws of digits, numbers and lines.
 -- Assumes nothing.
-use Prim.Native.Nat.{ℕ, zero, suc, ◌+◌, ◌*◌, ◌^◌, ◌≤◌, ◌<◌}
-use mathlib.Core.Path.{◌≡◌, refl}
+use Prim.Native.Nat.{ℕ, zero, suc, ◌+◌, ◌-◌, ◌*◌, ◌^◌, ◌≤◌, ◌<◌}
+use mathlib.Core.Path.{◌≡◌, refl, ◌∙◌}
 use mathlib.Core.Bool.{true, false, ◌&&◌, and-false}
 use mathlib.Core.List.{List}
 use native.Mathlib.Omega.{arith}
@@ -9,7 +9,9 @@ use native.Mathlib.Numerals.{add-one}
 use native.Mathlib.Decide.{dec_lt}
 use native.Mathlib.Nat.{pow-suc, pow-le-pow_right}
 use lib.Dec.{eqb, ltb}
-use lib.ListN.{length, get_or}
+use lib.ListN.{length, get_or, take, drop, length-drop}
+use lib.Seq.{get_or-drop}
+use Rattle.std.proofs.lemmas.List.{get_or-take, length-take-le}
 use borrow.Author.Tests.{lt-ltb, le-ltb, ltb-true, eqb-true}
 use Rattle.counting.proofs.Bits.{by_cases, and_left, and_right}
 use Rattle.counting.proofs.Lists.{get_or_tabulate}
@@ -19,6 +21,16 @@ use Rattle.text.specs.Text.{digit, digit_values, digits, number, is_line, is_dig
 pub value_of : (l : List ℕ) → l ≡ digit_values → (b : ℕ) → b < 256 → get_or l b 0 ≡ digit b
 unfolding digit_values
 value_of l e b h = rw e (get_or_tabulate 256 digit b 0 h)
+
+-- the n bytes from a place on, as a part of the text
+pub part_at : (s : List ℕ) (at n k : ℕ) → k < n → get_or (take (at + n - at) (drop at s)) k 0 ≡ get_or s (at + k) 0
+part_at s at n k l = get_or-take (at + n - at) (drop at s) k 0 (omega arith) ∙ get_or-drop at s k 0
+
+pub part_long : (s : List ℕ) (at n : ℕ) → at + n ≤ length s → length (take (at + n - at) (drop at s)) ≡ n
+part_long s at n h =
+    let long : length (drop at s) ≡ length s - at = length-drop at s in
+    let e : at + n - at ≡ n = omega arith in
+    rw e (length-take-le n (drop at s) (omega (arith, long)))
 
 module _ (s : List ℕ) (at : ℕ) where
   pub number_step : (n : ℕ) → number s at n * 16 + digit (get_or s (at + n) 0) ≡ number s at (suc n)

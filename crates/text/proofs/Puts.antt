@@ -10,7 +10,7 @@ use lib.Arith.{digits_div, digits_mod, mod-mul}
 use lib.ListN.{length, get_or, set, length-append}
 use lib.Seq.{sets}
 use Rattle.counting.proofs.Lists.{get_or_tabulate}
-use Rattle.counting.proofs.Parts.{sets_append}
+use Rattle.counting.proofs.Parts.{sets_append, set_sets}
 use Rattle.text.specs.Hex.{digit_of, digit_texts, hex}
 
 -- the table of digits, read at a value
@@ -59,3 +59,21 @@ pub put_both :
     → y ≡ sets l at (hex (a + b) v)
 unfolding hex
 put_both = put_runs 16 (omega arith) digit_of hex (λ v. refl) (λ n v. refl)
+
+-- a number's digits from the last one back: the first of so many
+pub hex_first : (j v : ℕ) → hex (suc j) v ≡ digit_of (v / 16 ^ j % 16) ∷ hex j v
+unfolding hex
+hex_first zero v = rw (pow-zero, div-one)
+hex_first (suc j) v =
+    let e : v / 16 / 16 ^ j ≡ v / 16 ^ suc j = rw pow-succ' (div-div-eq-div-mul v 16 (16 ^ j)) in
+    rw (hex_first j (v / 16), e)
+
+-- the rest of a number after one digit more
+pub rest_next : (j v : ℕ) {rest : ℕ} → rest ≡ v / 16 ^ j → rest / 16 ≡ v / 16 ^ suc j
+rest_next j v e = rw (e, pow-suc) (div-div-eq-div-mul v (16 ^ j) 16)
+
+-- and the digit stored before those that are there
+pub put_first :
+    (l x : List ℕ) (i j v : ℕ) {rest d : ℕ} → rest ≡ v / 16 ^ j → x ≡ sets l (suc i) (hex j v) → d ≡ digit_of (rest % 16)
+    → set x i d ≡ sets l i (hex (suc j) v)
+put_first l x i j v e f g = rw (f, g, e, hex_first j v) (set_sets l i (suc i) (digit_of (v / 16 ^ j % 16)) (hex j v) (omega arith))

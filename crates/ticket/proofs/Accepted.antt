@@ -16,7 +16,7 @@ use Rattle.header.specs.Heading.{header_bytes, header_of, edition_of}
 use Rattle.ticket.specs.Grounds.{Says, row1, row2, row3, row4, row5, row6, row7, row8, row17, row9, none}
 use Rattle.ticket.specs.Grounds.{HeaderPasses, card, LinesPass, frames_of, part, Fits}
 use Rattle.ticket.specs.Ticket.{Parsed, accepted, refused, parse, longest_ticket, line_start}
-use Rattle.frame_lines.proofs.OneLine.{eight, few_bytes}
+use Rattle.frame_lines.proofs.OneLine.{eight_of, few_bytes}
 use Rattle.ticket.proofs.Reader.{says}
 use Rattle.header.specs.declared.Header.{Header}
 
@@ -105,4 +105,4 @@ module _ (t : List ℕ) (h : Header) (cards : List ℕ) where
     -- and so no longer than the longest
     pub not_longer : length t ≤ longest_ticket
     not_longer =
-        omega (arith, text_length, eight, few_bytes h.edition (length cards) {d = line_digits h.edition} refl (rw as_many fits.few))
+        omega (arith, text_length, eight_of refl, few_bytes h.edition (length cards) {d = line_digits h.edition} refl (rw as_many fits.few))

@@ -33,33 +33,32 @@ use Rattle.ticket.proofs.Seconds.{second_at_is, second_past}
 use Rattle.ticket.proofs.Memory.{into_accepted, into_long, into_zeros}
 use Rattle.ticket.proofs.Reader.{refusal_above}
 use Rattle.header.specs.declared.Header.{Header}
-use Rattle.header.specs.declared.Answer.{Answer}
-use Rattle.header.specs.declared.Answer.TheVariants.{Accepted, Refused}
+use Rattle.std.specs.Prelude.{Result, Ok, Err}
 
 -- from the answer to what the text is read as
-answer_refused : (p : Parsed) (k : ℕ) → answer_in p ≡ Refused k → p ≡ refused k
+answer_refused : (p : Parsed) (k : ℕ) → answer_in p ≡ Err k → p ≡ refused k
 answer_refused (accepted h cards) k e = let z : ◌≡◌ {A = ℕ} 0 1 = cc in absurd (omega arith)
 answer_refused (refused j) k e = let q : j ≡ k = cc in ap refused q
 
-answer_accepted : (p : Parsed) (h : Header) → answer_in p ≡ Accepted h → (cards : List ℕ) × (p ≡ accepted h cards)
+answer_accepted : (p : Parsed) (h : Header) → answer_in p ≡ Ok h → (cards : List ℕ) × (p ≡ accepted h cards)
 answer_accepted (accepted g cards) h e = let q : g ≡ h = cc in (cards, ap (λ (x : Header). accepted x cards) q)
 answer_accepted (refused j) h e = let z : ◌≡◌ {A = ℕ} 0 1 = cc in absurd (omega arith)
 
-module _ (t : List ℕ) (a : Answer) (e : a ≡ answer_in (parse t)) where
-  pub was_refused : (k : ℕ) → a ≡ Refused k → parse t ≡ refused k
+module _ (t : List ℕ) (a : Result Header ℕ) (e : a ≡ answer_in (parse t)) where
+  pub was_refused : (k : ℕ) → a ≡ Err k → parse t ≡ refused k
   was_refused k q = answer_refused (parse t) k (sym e ∙ q)
 
-  pub was_accepted : (h : Header) → a ≡ Accepted h → (cards : List ℕ) × (parse t ≡ accepted h cards)
+  pub was_accepted : (h : Header) → a ≡ Ok h → (cards : List ℕ) × (parse t ≡ accepted h cards)
   was_accepted h q = answer_accepted (parse t) h (sym e ∙ q)
 
   -- the number beside a line
-  pub number_refused : (k p : ℕ) → a ≡ Refused k → k ≡ line_refusal_of (parse t) p
+  pub number_refused : (k p : ℕ) → a ≡ Err k → k ≡ line_refusal_of (parse t) p
   number_refused k p q = rw (was_refused k q)
 
-  pub below : (h : Header) (p : ℕ) → a ≡ Accepted h → p < h.frames → 0 ≡ line_refusal_of (parse t) p
+  pub below : (h : Header) (p : ℕ) → a ≡ Ok h → p < h.frames → 0 ≡ line_refusal_of (parse t) p
   below h p q l = let r = was_accepted h q in rw (r.1, lt-ltb p (length r.0) (rw (as_many t h r.0 r.1) l))
 
-  pub not_below : (h : Header) (p : ℕ) → a ≡ Accepted h → h.frames ≤ p → 16 ≡ line_refusal_of (parse t) p
+  pub not_below : (h : Header) (p : ℕ) → a ≡ Ok h → h.frames ≤ p → 16 ≡ line_refusal_of (parse t) p
   not_below h p q l = let r = was_accepted h q in rw (r.1, le-ltb p (length r.0) (rw (as_many t h r.0 r.1) l))
 
 -- where a part stands that begins at byte i of a slice; at byte 0 it stands where the slice does
@@ -145,7 +144,7 @@ module _ (h : Header) (cards rest card : List ℕ) (f : Fits h cards) (a : card 
   tally_gives = rw (a, ← f.frames) (counts_front max_cards cards rest)
 
 -- what a call goes on with, and the counts
-module _ (t memory after : List ℕ) (a : Answer) (e : a ≡ answer_in (parse t)) (m : after ≡ read_into t memory) (l : length memory ≡ max_frames) where
+module _ (t memory after : List ℕ) (a : Result Header ℕ) (e : a ≡ answer_in (parse t)) (m : after ≡ read_into t memory) (l : length memory ≡ max_frames) where
   front : (h : Header) (cards : List ℕ) → parse t ≡ accepted h cards → take h.frames after ≡ cards
   front h cards p =
       ap (take h.frames) (m ∙ into_accepted t memory h cards p)
@@ -160,12 +159,12 @@ module _ (t memory after : List ℕ) (a : Answer) (e : a ≡ answer_in (parse t)
         fits = λ h q. let p = was_accepted t a e h q in rw (front h p.0 p.1) (fits t h p.0 p.1);
       }
 
-module _ (t memory : List ℕ) (a : Answer) (r : ReadAs t a memory) where
-  pub counts_refused : (k : ℕ) → a ≡ Refused k → replicate max_cards 0 ≡ counts_of (parse t)
+module _ (t memory : List ℕ) (a : Result Header ℕ) (r : ReadAs t a memory) where
+  pub counts_refused : (k : ℕ) → a ≡ Err k → replicate max_cards 0 ≡ counts_of (parse t)
   unfolding zeros
   counts_refused k q = rw (r.refusal k q)
 
-  module _ (h : Header) (q : a ≡ Accepted h) where
+  module _ (h : Header) (q : a ≡ Ok h) where
     parts : memory ≡ take h.frames memory ++ drop h.frames memory
     parts = sym (take-append-drop h.frames memory)
 
@@ -183,21 +182,18 @@ same_numbers (refused k) = refl
 
 -- the clauses of `read`
 pub contract :
-    (t memory after : List ℕ) (a : Answer) → a ≡ answer_in (parse t) → after ≡ read_into t memory → length memory ≡ max_frames
+    (t memory after : List ℕ) (a : Result Header ℕ) → a ≡ answer_in (parse t) → after ≡ read_into t memory → length memory ≡ max_frames
     → (a ≡ answer_in (parse t)) × ((numbers_of a ≡ numbers_in (parse t)) × ((after ≡ read_into t memory) × ReadAs t a after))
 contract t memory after a e m l = (e, (ap numbers_of e ∙ same_numbers (parse t), (m, reads t memory after a e m l)))
 
 -- the clauses of `parse`
-module _ (t : List ℕ) (a : Answer) (e : a ≡ answer_in (parse t)) where
-  pub parsed_refused :
-      (k : ℕ) → a ≡ Refused k
-      → (record { answer = Refused k; card = replicate max_frames 0 } ≡ ticket_of (parse t)) × (numbers_of (Refused k) ≡ numbers_in (parse t))
-  unfolding zeros
+module _ (t : List ℕ) (a : Result Header ℕ) (e : a ≡ answer_in (parse t)) where
+  pub parsed_refused : (k : ℕ) → a ≡ Err k → (Err k ≡ ticket_of (parse t)) × (numbers_of (Err k) ≡ numbers_in (parse t))
   parsed_refused k q = let p = was_refused t a e k q in (rw p, rw p)
 
   pub parsed_accepted :
-      (h : Header) (card : List ℕ) → a ≡ Accepted h → card ≡ read_into t (replicate max_frames 0)
-      → (record { answer = Accepted h; card = card } ≡ ticket_of (parse t)) × (numbers_of (Accepted h) ≡ numbers_in (parse t))
+      (h : Header) (card : List ℕ) → a ≡ Ok h → card ≡ read_into t (replicate max_frames 0)
+      → (Ok (record { header = h; card = card }) ≡ ticket_of (parse t)) × (numbers_of (Ok h) ≡ numbers_in (parse t))
   unfolding zeros
   parsed_accepted h card q m =
       let p = was_accepted t a e h q in
@@ -205,7 +201,7 @@ module _ (t : List ℕ) (a : Answer) (e : a ≡ answer_in (parse t)) where
       (rw (p.1, ← card_is), rw p.1)
 
 -- a frame's second
-module _ (t : List ℕ) (h : Header) (a : answer_in (parse t) ≡ Accepted h) where
+module _ (t : List ℕ) (h : Header) (a : answer_in (parse t) ≡ Ok h) where
   found : (cards : List ℕ) × (parse t ≡ accepted h cards)
   found = answer_accepted (parse t) h a
 
@@ -232,6 +228,6 @@ module _ (t : List ℕ) (h : Header) (a : answer_in (parse t) ≡ Accepted h) wh
     pub past_seconds : h.frames ≤ p → 0 ≡ second_of (seconds_of t) p
     past_seconds l = sym (second_past t h cards found.1 p (rw frames l))
 
-pub refused_second : (t : List ℕ) (k p : ℕ) → answer_in (parse t) ≡ Refused k → 0 ≡ second_of (seconds_of t) p
+pub refused_second : (t : List ℕ) (k p : ℕ) → answer_in (parse t) ≡ Err k → 0 ≡ second_of (seconds_of t) p
 unfolding seconds_of
 refused_second t k p a = rw (answer_refused (parse t) k a)

@@ -10,8 +10,8 @@ use Rattle.text.specs.UpperCase.{upper, upper_case}
 use Rattle.text.proofs.UpperCase.{length_upper, number_upper, line_upper}
 use Rattle.header.specs.Editions.{card_digits, second_digits, line_digits, line_bytes}
 use Rattle.header.specs.Heading.{header_digits, header_bytes, header_of, heading}
-use Rattle.header.specs.declared.Answer.{Answer}
-use Rattle.header.specs.declared.Answer.TheVariants.{Accepted, Refused}
+use Rattle.std.specs.Prelude.{Result, Ok, Err}
+use Rattle.header.specs.declared.Header.{Header}
 use Rattle.frame_lines.specs.Lines.{card_at, second_at, second_before, line_fault, lines_fault, part_fault}
 use Rattle.ticket.specs.Ticket.{Parsed, accepted, refused, parse_part, parse}
 use Rattle.ticket.specs.Seconds.{how_many_seconds, seconds_in, seconds_of}
@@ -45,9 +45,9 @@ module _ (edition : ℕ) (s : List ℕ) where
   part_upper cards n = rw (lines_upper cards n, length_upper s)
 
 module _ (s : List ℕ) where
-  parse_part_upper : (a : Answer) → parse_part a (upper_case s) ≡ parse_part a s
-  parse_part_upper (Refused k) = refl
-  parse_part_upper (Accepted h) =
+  parse_part_upper : (a : Result Header ℕ) → parse_part a (upper_case s) ≡ parse_part a s
+  parse_part_upper (Err k) = refl
+  parse_part_upper (Ok h) =
       rw (
         part_upper h.edition s h.cards h.frames,
         tabulate_cong h.frames (card_at h.edition (upper_case s)) (card_at h.edition s) (λ i l. card_upper h.edition s i),

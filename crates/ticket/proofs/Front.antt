@@ -17,11 +17,10 @@ use Rattle.header.specs.Editions.{edition2, card_digits, second_digits, line_dig
 use Rattle.header.specs.Heading.{header_digits, header_bytes, header_of, heading}
 use Rattle.header.specs.Limits.{max_frames}
 use Rattle.header.specs.declared.Header.{Header}
-use Rattle.header.specs.declared.Answer.{Answer}
-use Rattle.header.specs.declared.Answer.TheVariants.{Accepted, Refused}
+use Rattle.std.specs.Prelude.{Result, Ok, Err}
 use Rattle.frame_lines.specs.Lines.{card_at, second_at, second_before, line_fault, lines_fault, part_fault}
 use Rattle.frame_lines.proofs.Places.{place_inside}
-use Rattle.frame_lines.proofs.OneLine.{eight, few_bytes}
+use Rattle.frame_lines.proofs.OneLine.{eight_of, few_bytes}
 use Rattle.ticket.specs.Ticket.{Parsed, accepted, refused, parse_part, parse, longest_ticket}
 use Rattle.ticket.specs.Seconds.{how_many_seconds, seconds_in, seconds_of}
 use Rattle.ticket.proofs.Accepted.{as_many, fits}
@@ -87,7 +86,7 @@ module _ (edition n cards : ℕ) (s : List ℕ) where
 module _ (n : ℕ) (t : List ℕ) (long : longest_ticket < n) where
   -- the lines of the most frames are all within it
   room : (edition k : ℕ) → k ≤ max_frames → line_bytes edition * k < n - header_bytes
-  room edition k l = omega (arith, long, eight, few_bytes edition k {d = line_digits edition} refl l)
+  room edition k l = omega (arith, long, eight_of refl, few_bytes edition k {d = line_digits edition} refl l)
 
   heading_front : heading (take n t) ≡ heading t
   unfolding heading header_of
@@ -106,9 +105,9 @@ module _ (n : ℕ) (t : List ℕ) (long : longest_ticket < n) where
       let e : header_bytes + (n - header_bytes) ≡ n = omega arith in
       subst (λ (k : ℕ). drop header_bytes (take k t) ≡ take (n - header_bytes) (drop header_bytes t)) e (drop_take header_bytes (n - header_bytes) t)
 
-  lines_front : (a : Answer) → heading t ≡ a → parse_part a (drop header_bytes (take n t)) ≡ parse_part a (drop header_bytes t)
-  lines_front (Refused k) e = refl
-  lines_front (Accepted h) e =
+  lines_front : (a : Result Header ℕ) → heading t ≡ a → parse_part a (drop header_bytes (take n t)) ≡ parse_part a (drop header_bytes t)
+  lines_front (Err k) e = refl
+  lines_front (Ok h) e =
       let r = room h.edition h.frames (few_frames t h e) in
       rw (
         after_header,

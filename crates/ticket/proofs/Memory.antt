@@ -14,8 +14,7 @@ use Rattle.counting.proofs.Parts.{from_place, drop_replicate}
 use Rattle.header.specs.Heading.{header_bytes, heading}
 use Rattle.header.specs.Limits.{max_frames}
 use Rattle.header.specs.declared.Header.{Header}
-use Rattle.header.specs.declared.Answer.{Answer}
-use Rattle.header.specs.declared.Answer.TheVariants.{Accepted, Refused}
+use Rattle.std.specs.Prelude.{Result, Ok, Err}
 use Rattle.frame_lines.specs.Lines.{card_at, part_fault, lines_passing, cards_read}
 use Rattle.frame_lines.proofs.Faults.{all_read, passing_few}
 use Rattle.ticket.specs.Ticket.{accepted, refused, parse_part, parse, answer_in, part_into, read_into}
@@ -23,7 +22,7 @@ use Rattle.ticket.proofs.Accepted.{as_many}
 use Rattle.ticket.proofs.Reader.{header_passes, header_read}
 
 module _ (t : List ℕ) where
-  module _ (h : Header) (e : heading t ≡ Accepted h) where
+  module _ (h : Header) (e : heading t ≡ Ok h) where
     pub long : header_bytes ≤ length t
     long = omega (arith, (header_passes t h e).line.inside)
 
@@ -35,11 +34,11 @@ module _ (t : List ℕ) where
       fault_is : k ≡ part_fault h.edition (drop header_bytes t) h.cards h.frames
       fault_is = rw from_place at q
 
-      pub part_refused : (k ≡ 0 → ⊥) → Refused k ≡ answer_in (parse t)
+      pub part_refused : (k ≡ 0 → ⊥) → Err k ≡ answer_in (parse t)
       unfolding parse
       part_refused n = rw (e, ← fault_is, ne_eqb k 0 n)
 
-      pub part_accepted : k ≡ 0 → Accepted h ≡ answer_in (parse t)
+      pub part_accepted : k ≡ 0 → Ok h ≡ answer_in (parse t)
       unfolding parse
       part_accepted z = rw (e, ← fault_is, z)
 
@@ -52,16 +51,16 @@ module _ (t : List ℕ) where
     part_into_is memory {after} q = rw e (rw from_place at q)
 
   -- a refused header
-  pub header_into : (k : ℕ) (memory : List ℕ) → heading t ≡ Refused k → memory ≡ read_into t memory
+  pub header_into : (k : ℕ) (memory : List ℕ) → heading t ≡ Err k → memory ≡ read_into t memory
   unfolding read_into
   header_into k memory e = rw e
 
 -- an accepted text: its cards stand at the front
 into_part :
-    (x : Answer) (s memory : List ℕ) (h : Header) (cards : List ℕ) → parse_part x s ≡ accepted h cards
+    (x : Result Header ℕ) (s memory : List ℕ) (h : Header) (cards : List ℕ) → parse_part x s ≡ accepted h cards
     → part_into x s memory ≡ cards ++ drop h.frames memory
-into_part (Refused k) s memory h cards e = let z : ◌≡◌ {A = ℕ} 0 1 = cc in absurd (omega arith)
-into_part (Accepted g) s memory h cards e =
+into_part (Err k) s memory h cards e = let z : ◌≡◌ {A = ℕ} 0 1 = cc in absurd (omega arith)
+into_part (Ok g) s memory h cards e =
     by_cases (eqb (part_fault g.edition s g.cards g.frames) 0)
     (λ z.
     let q : accepted g (tabulate g.frames (card_at g.edition s)) ≡ accepted h cards = rw z at e in
@@ -75,11 +74,11 @@ into_part (Accepted g) s memory h cards e =
 
 -- memory stays as long as it is
 long_part :
-    (x : Answer) (s memory : List ℕ) → ((h : Header) → x ≡ Accepted h → h.frames ≤ length memory)
+    (x : Result Header ℕ) (s memory : List ℕ) → ((h : Header) → x ≡ Ok h → h.frames ≤ length memory)
     → length (part_into x s memory) ≡ length memory
 unfolding cards_read
-long_part (Refused k) s memory few = refl
-long_part (Accepted h) s memory few =
+long_part (Err k) s memory few = refl
+long_part (Ok h) s memory few =
     let n = lines_passing h.edition s h.cards h.frames in
     omega (
       arith,

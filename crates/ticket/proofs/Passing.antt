@@ -9,10 +9,10 @@ use Rattle.header.proofs.Judged.{judge_accepts, heading_passes}
 use Rattle.ticket.specs.Grounds.{HeaderPasses, LinePasses, LinesPass, cards_of, part}
 use Rattle.frame_lines.specs.Lines.{line_fault, lines_fault}
 use Rattle.frame_lines.proofs.Faults.{line_0, no_fault}
-use Rattle.header.specs.declared.Answer.TheVariants.{Accepted}
+use Rattle.std.specs.Prelude.{Ok}
 
 module _ (t : List ℕ) where
-  pub header_accepted : HeaderPasses t → heading t ≡ Accepted (header_of t)
+  pub header_accepted : HeaderPasses t → heading t ≡ Ok (header_of t)
   header_accepted p =
       heading_passes t (line_true t 0 header_digits p.line) p.edition
       ∙ judge_accepts (header_of t) p.mode p.cards p.pool p.frames

@@ -24,11 +24,11 @@ use Rattle.frame_lines.proofs.Faults.{line_7, line_8, line_17, refuses, part_9, 
 use Rattle.frame_lines.proofs.OneLine.{nothing_asked}
 use Rattle.ticket.proofs.Passing.{header_accepted, lines_accepted}
 use Rattle.header.specs.declared.Header.{Header}
-use Rattle.header.specs.declared.Answer.TheVariants.{Accepted, Refused}
+use Rattle.std.specs.Prelude.{Ok, Err}
 
 module _ (t : List ℕ) where
   -- from the header's answer, and the part's refusal, to the ticket's answer
-  pub header_refused : (k : ℕ) → heading t ≡ Refused k → parse t ≡ refused k
+  pub header_refused : (k : ℕ) → heading t ≡ Err k → parse t ≡ refused k
   unfolding parse
   header_refused k e = rw e
 
@@ -63,16 +63,16 @@ module _ (t : List ℕ) where
   given {a} s = rw (only a s) s
 
   -- the first line that is refused, if there is one
-  data Refused-at (i : ℕ) : Type 0 where
-    no_line : (LineAt t i → ⊥) → Refused-at i
-    no_card : LineAt t i → cards_of t ≤ card t i → Refused-at i
-    falls : LineAt t i → card t i < cards_of t → second t i < before t i → Refused-at i
+  data Err-at (i : ℕ) : Type 0 where
+    no_line : (LineAt t i → ⊥) → Err-at i
+    no_card : LineAt t i → cards_of t ≤ card t i → Err-at i
+    falls : LineAt t i → card t i < cards_of t → second t i < before t i → Err-at i
 
   Found : ℕ → Type 0
-  Found n = (i : ℕ) × (i < n) × LinesPass t i × Refused-at i
+  Found n = (i : ℕ) × (i < n) × LinesPass t i × Err-at i
 
   -- what line i is
-  at_line : (i : ℕ) → LinePasses t i ⊎ Refused-at i
+  at_line : (i : ℕ) → LinePasses t i ⊎ Err-at i
   at_line i =
       ⊎_elim
       (λ l.
@@ -99,7 +99,7 @@ module _ (t : List ℕ) where
       (λ f. inr (f.0, omega (arith, f.1), f.2, f.3))
       (find n)
 
-  says_refused : HeaderPasses t → (i : ℕ) → i < frames_of t → LinesPass t i → Refused-at i → Says t (parse t)
+  says_refused : HeaderPasses t → (i : ℕ) → i < frames_of t → LinesPass t i → Err-at i → Says t (parse t)
   says_refused p i l q (no_line n) = given (row7 p i l q n)
   says_refused p i l q (no_card n c) = given (row8 p i l q n c)
   says_refused p i l q (falls n c f) = given (row17 p i l q n c f)
@@ -118,7 +118,7 @@ module _ (t : List ℕ) where
 
   -- the header: none of its grounds, or one of its rows
   HeaderRow : Type 0
-  HeaderRow = HeaderPasses t ⊎ ((k : ℕ) × (heading t ≡ Refused k) × Says t (refused k))
+  HeaderRow = HeaderPasses t ⊎ ((k : ℕ) × (heading t ≡ Err k) × Says t (refused k))
 
   module _ (l : Line t 0 header_digits) (e : Known (edition_of t)) (m : mode_of t ≤ mode_save_and_keep) (c : Within max_cards (cards_of t)) where
     row_by_frames : Within max_pool (pool_of t) → HeaderRow
@@ -167,11 +167,11 @@ module _ (t : List ℕ) where
   says = ⊎_elim says_lines (λ r. given r.2) header_row
 
   -- an accepted header is the text's own, and within the limits
-  pub header_passes : (h : Header) → heading t ≡ Accepted h → HeaderPasses t
+  pub header_passes : (h : Header) → heading t ≡ Ok h → HeaderPasses t
   unfolding HeaderRow
   header_passes h e = ⊎_elim (λ p. p) (λ r. let q = r.1 in let z : ◌≡◌ {A = ℕ} 0 1 = cc in absurd (omega arith)) header_row
 
-  pub header_read : (h : Header) → heading t ≡ Accepted h → h ≡ header_of t
+  pub header_read : (h : Header) → heading t ≡ Ok h → h ≡ header_of t
   header_read h e = let q = header_accepted t (header_passes h e) in cc
 
   -- a refusal's number is one of 1 to 9, or 17, which only edition 02 has

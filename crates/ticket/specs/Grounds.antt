@@ -11,8 +11,7 @@ use Rattle.header.specs.Limits.{Within, Outside, mode_save_and_keep, max_cards, 
 use Rattle.frame_lines.specs.Lines.{card_at, second_at, second_before}
 use Rattle.ticket.specs.Ticket.{Parsed, accepted, refused, parse}
 use Rattle.header.specs.declared.Header.{Header}
-use Rattle.header.specs.declared.Answer.{Answer}
-use Rattle.header.specs.declared.Answer.TheVariants.{Accepted, Refused}
+use Rattle.std.specs.Prelude.{Result, Ok, Err}
 
 module _ (t : List ℕ) where
   -- what stands in the header
@@ -111,8 +110,8 @@ pub record Fits (h : Header) (cards : List ℕ) : Type 0 where
 
 -- What a call that takes a ticket goes on with once it is read: the number of its refusal, or its header, with the list of cards beside it
 -- at the front of lent memory.
-pub record ReadAs (t : List ℕ) (answer : Answer) (memory : List ℕ) : Type 0 where
+pub record ReadAs (t : List ℕ) (answer : Result Header ℕ) (memory : List ℕ) : Type 0 where
   pub long : length memory ≡ max_frames
-  pub refusal : (k : ℕ) → answer ≡ Refused k → parse t ≡ refused k
-  pub list : (h : Header) → answer ≡ Accepted h → parse t ≡ accepted h (take h.frames memory)
-  pub fits : (h : Header) → answer ≡ Accepted h → Fits h (take h.frames memory)
+  pub refusal : (k : ℕ) → answer ≡ Err k → parse t ≡ refused k
+  pub list : (h : Header) → answer ≡ Ok h → parse t ≡ accepted h (take h.frames memory)
+  pub fits : (h : Header) → answer ≡ Ok h → Fits h (take h.frames memory)

@@ -10,8 +10,7 @@ use Rattle.header.specs.Heading.{header_bytes, edition_of, heading}
 use Rattle.header.specs.Numbers.{Numbers, accepted_as, refused_by}
 use Rattle.header.specs.Limits.{max_cards, max_frames}
 use Rattle.header.specs.declared.Header.{Header}
-use Rattle.header.specs.declared.Answer.{Answer}
-use Rattle.header.specs.declared.Answer.TheVariants.{Accepted, Refused}
+use Rattle.std.specs.Prelude.{Result, Ok, Err}
 use Rattle.frame_lines.specs.Lines.{card_at, part_fault, cards_read}
 use Rattle.frame_lines.specs.Tally.{counts_up_to}
 use Rattle.ticket.specs.declared.Ticket.{Ticket}
@@ -21,9 +20,9 @@ pub data Parsed : Type 0 where
   accepted : Header → List ℕ → Parsed
   refused : ℕ → Parsed
 
-abbrev pub parse_part : Answer → List ℕ → Parsed
-parse_part (Refused k) s = refused k
-parse_part (Accepted h) s =
+abbrev pub parse_part : Result Header ℕ → List ℕ → Parsed
+parse_part (Err k) s = refused k
+parse_part (Ok h) s =
     cond (eqb (part_fault h.edition s h.cards h.frames) 0)
     (accepted h (tabulate h.frames (card_at h.edition s)))
     (refused (part_fault h.edition s h.cards h.frames))
@@ -33,15 +32,15 @@ unfoldable pub parse : List ℕ → Parsed
 parse t = parse_part (heading t) (drop header_bytes t)
 
 -- the answer to a text, without the cards
-abbrev pub answer_in : Parsed → Answer
-answer_in (accepted h cards) = Accepted h
-answer_in (refused k) = Refused k
+abbrev pub answer_in : Parsed → Result Header ℕ
+answer_in (accepted h cards) = Ok h
+answer_in (refused k) = Err k
 
 -- What lent memory holds when a text was read into it: over its front the cards of the frame lines, up to the first that does not pass. A
 -- refused header leaves it as it was.
-abbrev pub part_into : Answer → List ℕ → List ℕ → List ℕ
-part_into (Refused k) s memory = memory
-part_into (Accepted h) s memory = cards_read h.edition s h.cards h.frames memory
+abbrev pub part_into : Result Header ℕ → List ℕ → List ℕ → List ℕ
+part_into (Err k) s memory = memory
+part_into (Ok h) s memory = cards_read h.edition s h.cards h.frames memory
 
 unfoldable pub read_into : List ℕ → List ℕ → List ℕ
 read_into t memory = part_into (heading t) (drop header_bytes t) memory
@@ -50,10 +49,15 @@ read_into t memory = part_into (heading t) (drop header_bytes t) memory
 unfoldable pub zeros : ℕ → List ℕ
 zeros n = replicate n 0
 
--- The ticket as the code answers it: the cards fill the first places, the others are 0; beside a refusal all are 0.
-abbrev pub ticket_of : Parsed → Ticket
-ticket_of (accepted h cards) = record { answer = Accepted h; card = cards ++ zeros (max_frames - length cards) }
-ticket_of (refused k) = record { answer = Refused k; card = zeros max_frames }
+-- The ticket as the code answers it: the cards fill the first places, the others are 0.
+abbrev pub ticket_of : Parsed → Result Ticket ℕ
+ticket_of (accepted h cards) = Ok (record { header = h; card = cards ++ zeros (max_frames - length cards) })
+ticket_of (refused k) = Err k
+
+-- its header, or the refusal
+abbrev pub header_in : Result Ticket ℕ → Result Header ℕ
+header_in (Ok ticket) = Ok ticket.header
+header_in (Err k) = Err k
 
 -- The numbers of the answer: the refusal's, 0 for an accepted ticket, and what stands in the header, all 0 beside a refusal.
 abbrev pub numbers_in : Parsed → Numbers

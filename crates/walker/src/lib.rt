@@ -28,11 +28,10 @@ pub struct Stepped<'a> {
 pub fn opened(ticket: &[u8]) -> &[u8]
     ensures { (result.now ≡ opened ticket.now) × (result.ref_ptr ≡ ticket.entry.ref_ptr) }
 {
-    let number = ticket::refusal(ticket);
-    if number != 0 {
-        return &ticket[0..0];
+    match ticket::refusal(ticket) {
+        None => ticket,
+        Some(_) => &ticket[0..0],
     }
-    ticket
 }
 
 // Whether such bytes have a line at a position.

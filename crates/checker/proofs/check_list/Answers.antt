@@ -8,8 +8,8 @@ returns-then-h-eq-MODE_SAVE_AND_KEEP c = keep_refused _ _ _ c.if-h-eq-MODE_SAVE_
 
 pub returns-then-plan-n : goal.returns-then-plan-n
 returns-then-plan-n c =
-    length_refused _ _ _ c.requires c.if-h-eq-MODE_SAVE_AND_KEEP.false (λ e. omega (arith, c.if-plan-n.true))
+    length_refused _ _ _ c.requires c.if-h-eq-MODE_SAVE_AND_KEEP.false (λ e. omega (arith, c.if-plan-n.true, c.from-n.ensures))
 
 pub returns : goal.returns
 returns c =
-    checked _ _ _ c.requires c.if-h-eq-MODE_SAVE_AND_KEEP.false (omega (arith, c.if-plan-n.false)) _ c.verdict.ensures
+    checked _ _ _ c.requires c.if-h-eq-MODE_SAVE_AND_KEEP.false (omega (arith, c.if-plan-n.false, c.from-n.ensures)) _ (rw c.from-n.ensures at c.verdict.ensures)

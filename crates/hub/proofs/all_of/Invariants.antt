@@ -1,13 +1,9 @@
--- What the loops of `all_of` keep.
-use Prim.Native.Nat.{◌-◌, ◌≤◌}
+-- What the loop of `all_of` keeps.
 use mathlib.Core.Path.{◌≡◌}
 use mathlib.Core.Bool.{true}
 use Rattle.hub.specs.Words.{AllOf}
 use Rattle.hub.proofs.all_of.Given as goal
 
-abbrev pub invariant-loop-j : goal.invariant-loop-j
-invariant-loop-j l =
-    (l.j ≤ 8) × ((l.same ≡ true → AllOf l.camera l.cameras l.at l.j) × (AllOf l.camera l.cameras l.at l.j → l.same ≡ true))
-
-abbrev pub decreases-loop-j : goal.decreases-loop-j
-decreases-loop-j l = 8 - l.j
+abbrev pub invariant-loop-other : goal.invariant-loop-other
+invariant-loop-other l =
+    (l.same ≡ true → AllOf l.camera l.cameras l.at l.other-index) × (AllOf l.camera l.cameras l.at l.other-index → l.same ≡ true)

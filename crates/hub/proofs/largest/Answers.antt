@@ -1,12 +1,9 @@
 -- What the check leaves to say of `largest`.
-use native.Mathlib.Omega.{arith}
-use Rattle.counting.proofs.Lists.{largest_take}
+use Rattle.std.proofs.Common.{◌∙◌}
+use Rattle.std.proofs.lemmas.Iterator.{YieldsList-from_slice}
+use Rattle.std.proofs.lemmas.Iterator.Consumers.{YieldsList-from_copied}
+use Rattle.schedule.proofs.Largest.{largest_from_max}
 use Rattle.hub.proofs.largest.Goals as goal
 
-pub loop-i-preserved-then-top-x : goal.loop-i-preserved-then-top-x
-loop-i-preserved-then-top-x c =
-    (omega arith, omega (arith, c.loop-i.invariant.1, largest_take c.args.numbers.now c.loop-i.i c.loop-i-test.true))
-
-pub loop-i-preserved : goal.loop-i-preserved
-loop-i-preserved c =
-    (omega arith, omega (arith, c.loop-i.invariant.1, largest_take c.args.numbers.now c.loop-i.i c.loop-i-test.true))
+pub returns : goal.returns
+returns c = c.unwrap_or.ensures ∙ largest_from_max _ _ c.max.ensures.ran (YieldsList-from_copied (YieldsList-from_slice c.args.numbers.now cc))

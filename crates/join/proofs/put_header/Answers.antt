@@ -4,4 +4,5 @@ use Rattle.join.proofs.put_header.Goals as goal
 
 pub returns : goal.returns
 returns c =
-    put_header _ _ _ _ _ _ _ c.put2.ensures c.put2-2.ensures c.put2-3.ensures c.put4.ensures c.put4-2.ensures
+    put_header _ _ _ _ _ _ _ (rw c.from.ensures at c.put.ensures) (rw c.from-2.ensures at c.put-2.ensures) (rw c.from-3.ensures at c.put-3.ensures)
+    (rw c.from-4.ensures at c.put-4.ensures) (rw c.from-5.ensures at c.put-5.ensures)

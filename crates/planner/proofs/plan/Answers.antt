@@ -1,21 +1,26 @@
 -- What the check leaves to say of `plan`.
+use mathlib.Core.Path.{refl}
+use Rattle.std.proofs.lemmas.Result.{err_from_is_err_and}
 use Rattle.planner.proofs.Answers.{ticket_refused}
 use Rattle.planner.proofs.Demand.{contract}
 use Rattle.planner.proofs.plan.Goals as goal
 
-pub returns-in-Refused : goal.returns-in-Refused
-returns-in-Refused c =
-    let clauses = contract _ _ _ _ (rw (c.read-answer.ensures.reads.refusal _ c.in-Refused.is) (ticket_refused _ _)) in
-    record {
+pub returns-in_err-h : goal.returns-in_err-h
+returns-in_err-h c =
+    let p = err_from_is_err_and c.from_residual.result c.from_residual.ensures.1 in
+    let read = c.in_err-h.ensures.reads.refusal _ refl in
+    let clauses = contract _ _ _ _ (rw read (ticket_refused _ _)) in
+    rw (p.1, p.2) record {
       answer = clauses.0;
       buffer = clauses.1.0;
       numbers = clauses.1.1.0;
       demand = clauses.1.1.1;
     }
 
-pub returns-in-Accepted : goal.returns-in-Accepted
-returns-in-Accepted c =
-    let clauses = contract _ _ _ _ (rw (c.read-answer.ensures.reads.list _ c.in-Accepted.is) c.plan_list.ensures) in
+pub returns : goal.returns
+returns c =
+    let read = c.in_ok-h.ensures.reads.list _ refl in
+    let clauses = contract _ _ _ _ (rw read c.plan_list.ensures) in
     record {
       answer = clauses.0;
       buffer = clauses.1.0;

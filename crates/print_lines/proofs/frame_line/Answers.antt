@@ -4,4 +4,4 @@ use Rattle.print_lines.proofs.frame_line.Goals as goal
 
 pub returns : goal.returns
 returns c =
-    put_line _ _ _ _ _ _ _ _ c.put_position.ensures c.put2.ensures c.put4.ensures
+    put_line _ _ _ _ _ _ _ _ c.put_position.ensures (rw c.from.ensures at c.put.ensures) (rw c.from-2.ensures at c.put-2.ensures)

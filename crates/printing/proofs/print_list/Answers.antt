@@ -4,4 +4,4 @@ use Rattle.printing.proofs.print_list.Goals as goal
 
 pub returns : goal.returns
 returns c =
-    rw (← text_is _ _ c.requires _ _ _ c.fill-cycles.ensures) c.plan.ensures
+    rw (← text_is _ _ c.requires _ _ _ (rw c.from-n.ensures at c.fill-cycles.ensures)) (rw c.from-n.ensures at c.plan.ensures)

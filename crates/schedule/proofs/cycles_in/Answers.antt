@@ -1,16 +1,10 @@
 -- What the check leaves to say of `cycles_in`.
-use native.Mathlib.Omega.{arith}
-use Rattle.counting.proofs.Lists.{largest_take}
+use Rattle.std.proofs.Common.{◌∙◌}
+use Rattle.std.proofs.lemmas.Iterator.{YieldsList-from_slice}
+use Rattle.std.proofs.lemmas.Iterator.Consumers.{YieldsList-from_copied}
+use Rattle.schedule.proofs.Largest.{largest_from_max}
 use Rattle.schedule.proofs.cycles_in.Goals as goal
 
-pub loop-i-preserved-then-top-c : goal.loop-i-preserved-then-top-c
-loop-i-preserved-then-top-c c =
-    let l = c.loop-i in
-    let plan = c.args.plan.now in
-    (omega arith, omega (arith, l.invariant.1, largest_take plan l.i c.loop-i-test.true))
-
-pub loop-i-preserved : goal.loop-i-preserved
-loop-i-preserved c =
-    let l = c.loop-i in
-    let plan = c.args.plan.now in
-    (omega arith, omega (arith, l.invariant.1, largest_take plan l.i c.loop-i-test.true))
+pub returns : goal.returns
+returns c =
+    c.unwrap_or.ensures ∙ largest_from_max _ _ c.max.ensures.ran (YieldsList-from_copied (YieldsList-from_slice c.args.plan.now cc))

@@ -1,16 +1,17 @@
 -- What the check leaves to say of `counts`.
 use mathlib.Core.Path.{◌∙◌}
+use Rattle.refusals.specs.Numbers.{told}
+use mathlib.Core.Path.{ap, ◌∙◌}
 use Rattle.ticket.proofs.Answers.{counts_refused, counts_asked, counts_given}
 use Rattle.ticket.proofs.counts.Goals as goal
 
 pub tally-requires : goal.tally-requires
 tally-requires c =
-    counts_asked _ _ c.read-answer.result c.read-answer.ensures.reads _ c.in-Accepted.is
+    counts_asked _ _ (told c.read.result) c.read.ensures.reads _ (ap told c.in-Ok.is)
 
-pub returns-in-Refused : goal.returns-in-Refused
-returns-in-Refused c =
-    counts_refused _ _ c.read-answer.result c.read-answer.ensures.reads _ c.in-Refused.is
+pub returns-in-Err : goal.returns-in-Err
+returns-in-Err c = counts_refused _ _ (told c.read.result) c.read.ensures.reads _ (ap told c.in-Err.is)
 
-pub returns-in-Accepted : goal.returns-in-Accepted
-returns-in-Accepted c =
-    c.tally.ensures ∙ counts_given _ _ c.read-answer.result c.read-answer.ensures.reads _ c.in-Accepted.is
+pub returns-in-Ok : goal.returns-in-Ok
+returns-in-Ok c =
+    c.tally.ensures ∙ counts_given _ _ (told c.read.result) c.read.ensures.reads _ (ap told c.in-Ok.is)

@@ -1,7 +1,12 @@
 -- What the check leaves to say of `second`.
 use mathlib.Core.Path.{sym, ◌∙◌}
+use Rattle.refusals.specs.Numbers.{told}
+use mathlib.Core.Path.{sym, ap, ◌∙◌}
 use Rattle.ticket.proofs.Answers.{refused_second}
 use Rattle.ticket.proofs.second.Goals as goal
 
-pub returns-in-Refused : goal.returns-in-Refused
-returns-in-Refused c = refused_second _ _ _ (sym c.read-answer.ensures.answer ∙ c.in-Refused.is)
+pub returns-in-Err : goal.returns-in-Err
+returns-in-Err c = refused_second _ _ _ (sym c.read.ensures.answer ∙ ap told c.in-Err.is)
+
+pub second_in-requires : goal.second_in-requires
+second_in-requires c = sym c.read.ensures.answer ∙ ap told c.in-Ok.is

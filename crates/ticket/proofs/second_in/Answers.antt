@@ -11,11 +11,11 @@ slice_bounds-second-start c = header_fits _ _ c.requires
 
 pub second-requires : goal.second-requires
 second-requires c =
-    (c.digit_values-value.ensures, second_line _ _ c.requires c.args.p.0 (omega arith))
+    rw c.from.ensures (second_line _ _ c.requires c.args.p.0 (omega arith))
 
 pub returns-then-p-h : goal.returns-then-p-h
 returns-then-p-h c =
-    its_second _ _ c.requires c.args.p.0 (omega arith) c.second.ensures
+    its_second _ _ c.requires c.args.p.0 (omega arith) (rw c.from.ensures at c.second.ensures)
 
 pub returns : goal.returns
 returns c =

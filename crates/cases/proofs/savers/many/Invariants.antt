@@ -1,10 +1,6 @@
--- What the loops of `savers::many` keep.
-use Rattle.std.proofs.Common.{◌-◌, ◌≤◌}
+-- What the loop of `savers::many` keeps: the record is one that a call gave.
 use Rattle.saver.specs.Calls.{Given}
 use Rattle.cases.proofs.savers.many.Given as goal
 
-abbrev pub invariant-loop-i : goal.invariant-loop-i
-invariant-loop-i l = (l.i ≤ 4095) × Given l.now
-
-abbrev pub decreases-loop-i : goal.decreases-loop-i
-decreases-loop-i l = 4095 - l.i
+abbrev pub invariant-loop : goal.invariant-loop
+invariant-loop l = Given l.now

@@ -1,10 +1,6 @@
--- What the loops of `savers::series` keep.
-use Rattle.std.proofs.Common.{◌-◌, ◌≤◌}
+-- What the loop of `savers::series` keeps: the record is one that a call gave.
 use Rattle.saver.specs.Calls.{Given}
 use Rattle.cases.proofs.savers.series.Given as goal
 
-abbrev pub invariant-loop-i : goal.invariant-loop-i
-invariant-loop-i g l = (l.i ≤ l.n) × Given l.now
-
-abbrev pub decreases-loop-i : goal.decreases-loop-i
-decreases-loop-i g l = l.n - l.i
+abbrev pub invariant-loop-b : goal.invariant-loop-b
+invariant-loop-b g l = Given l.now

@@ -1,13 +1,16 @@
 -- What the check leaves to say of `steps::end_cycle`.
-use mathlib.Core.Path.{refl}
+use Prim.Native.Nat.{◌+◌, min}
+use mathlib.Core.Path.{◌≡◌, refl}
+use native.Mathlib.Omega.{arith}
+use Rattle.dock.specs.State.{most_cycles}
 use Rattle.dock.proofs.Taken.{end_over_pool, end_within}
 use Rattle.dock.proofs.steps.end_cycle.Goals as goal
 
 pub returns-then-dock : goal.returns-then-dock
 returns-then-dock c =
-    rw c.break_off.ensures (end_over_pool c.args.dock _ c.requires.1 c.if-dock.true)
+    rw c.break_off.ensures (end_over_pool c.args.dock _ c.if-dock.true)
 
 pub returns : goal.returns
 returns c =
-    end_within c.args.dock _ c.requires.1 c.if-dock.false c.hand_over-n.ensures c.less.ensures
-    c.one_more.ensures _ refl
+    let next : c.saturating_add.result ≡ min (c.args.dock.ended + 1) most_cycles = omega arith in
+    end_within c.args.dock _ c.if-dock.false c.hand_over-n.ensures c.saturating_sub.ensures next _ refl

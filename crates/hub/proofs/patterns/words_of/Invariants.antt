@@ -1,10 +1,6 @@
--- What the loops of `patterns::words_of` keep.
-use Prim.Native.Nat.{◌-◌, ◌≤◌}
+-- What the loop of `patterns::words_of` keeps.
 use Rattle.hub.proofs.Placing.{Ready}
 use Rattle.hub.proofs.patterns.words_of.Given as goal
 
 abbrev pub invariant-loop-q : goal.invariant-loop-q
-invariant-loop-q l = (l.q ≤ l.n) × Ready l.chosen l.q l.words
-
-abbrev pub decreases-loop-q : goal.decreases-loop-q
-decreases-loop-q l = l.n - l.q
+invariant-loop-q l = Ready l.chosen l.q l.words

@@ -1,10 +1,13 @@
 -- What the check leaves to say of `words::put_eight`.
-use mathlib.Core.Path.{◌∙◌}
+use Prim.Native.Nat.{ℕ}
+use mathlib.Core.Path.{ap, ◌∙◌}
+use mathlib.Core.List.{List}
 use native.Mathlib.Omega.{arith}
-use lib.ListN.{length-set}
-use Rattle.hub.proofs.Turning.{byte_put}
+use lib.Seq.{sets}
+use Rattle.hub.proofs.Turning.{eight_bytes, part_put}
 use Rattle.hub.proofs.words.put_eight.Goals as goal
 
-pub loop-j-preserved : goal.loop-j-preserved
-loop-j-preserved c =
-    (omega arith, simp length-set c.loop-j.invariant.1, byte_put c.loop-j.out _ c.loop-j.j c.loop-j.rest (omega arith) ∙ c.loop-j.invariant.2)
+pub returns : goal.returns
+returns c =
+    part_put c.args.at _ c.args.out.now _ _ (c.copy_from_slice.ensures.after ∙ c.to_le_bytes.ensures) (omega arith) c.requires
+    ∙ ap (λ (l : List ℕ). sets c.args.out.now c.args.at l) (eight_bytes c.args.word)

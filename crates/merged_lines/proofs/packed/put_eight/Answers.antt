@@ -1,7 +1,13 @@
 -- What the check leaves to say of `packed::put_eight`.
-use Rattle.merged_lines.proofs.Packing.{put_runs_256}
+use native.Mathlib.Omega.{arith}
+use mathlib.Core.Path.{ap, ◌∙◌}
+use mathlib.Core.List.{List}
+use Prim.Native.Nat.{ℕ}
+use lib.Seq.{sets}
+use Rattle.merged_lines.proofs.Packing.{eight_bytes, part_put}
 use Rattle.merged_lines.proofs.packed.put_eight.Goals as goal
 
 pub returns : goal.returns
 returns c =
-    put_runs_256 4 4 _ _ _ _ _ c.put_four.ensures c.put_four-2.ensures
+    part_put c.args.at _ c.args.out.now _ _ (c.copy_from_slice.ensures.after ∙ c.to_be_bytes.ensures) (omega arith) c.requires
+    ∙ ap (λ (l : List ℕ). sets c.args.out.now c.args.at l) (eight_bytes c.args.v)

@@ -23,9 +23,9 @@ returns-then-has c =
     let has_cycle = c.if-cycle-eq0.false in
     let pre = c.requires in
     let front = c.loop-i-test.true in
-    let low = cycle_low pre.0 pre.1 pre.2.inside front c.cycle_index-c.ensures in
+    let low = cycle_low pre.0 pre.1 pre.2.inside front c.from-c.ensures in
     let member = sym has-is ∙ c.if-has.true in
-    member_ends inv front pre.2.inside c.cycle_index-c.ensures low has_cycle member
+    member_ends inv front pre.2.inside c.from-c.ensures low has_cycle member
 
 pub loop-i-preserved : goal.loop-i-preserved
 loop-i-preserved c =
@@ -35,9 +35,9 @@ loop-i-preserved c =
     let has_cycle = c.if-cycle-eq0.false in
     let pre = c.requires in
     let front = c.loop-i-test.true in
-    let low = cycle_low pre.0 pre.1 pre.2.inside front c.cycle_index-c.ensures in
+    let low = cycle_low pre.0 pre.1 pre.2.inside front c.from-c.ensures in
     let none = no_member _ _ (sym has-is ∙ no_card) in
-    seen_next inv front pre.2.inside c.cycle_index-c.ensures low has_cycle none c.with.ensures
+    seen_next inv front pre.2.inside c.from-c.ensures low has_cycle none c.with.ensures
 
 pub returns : goal.returns
 returns c = clear_all c.loop-i.invariant.clear c.loop-i-test.false

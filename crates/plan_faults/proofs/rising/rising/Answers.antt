@@ -7,4 +7,4 @@ loop-i-preserved c =
     let inv = c.loop-i.invariant in
     let pre = c.requires in
     let inside = c.loop-i-test.true in
-    rising_next inv inside c.card_index-c.ensures pre.0 c.if-cycle-latest.false
+    rising_next inv inside c.from-c.ensures pre.0 c.if-cycle-latest.false

@@ -1,10 +1,6 @@
--- What the loops of `rising::rising` keep.
-use Prim.Native.Nat.{◌-◌}
+-- What the loop of `rising::rising` keep.
 use Rattle.plan_faults.specs.Searches.{Rising}
 use Rattle.plan_faults.proofs.rising.rising.Given as goal
 
 abbrev pub invariant-loop-i : goal.invariant-loop-i
 invariant-loop-i l = Rising l.cards l.plan l.latest l.from l.i
-
-abbrev pub decreases-loop-i : goal.decreases-loop-i
-decreases-loop-i l = l.n - l.i

@@ -1,10 +1,9 @@
--- What the loops of `backlog::count_up_to` keep.
-use Prim.Native.Nat.{◌-◌}
+-- What the loop of `backlog::count_up_to` keeps.
 use Rattle.pool_counts.specs.Looking.{Looking}
 use Rattle.pool_counts.proofs.backlog.count_up_to.Given as goal
 
-abbrev pub invariant-loop-k : goal.invariant-loop-k
-invariant-loop-k l = Looking l.save l.cycle l.others l.m l.k l.count
+abbrev pub ghost-whole_parts : goal.ghost-whole_parts
+ghost-whole_parts g a = g.rule
 
-abbrev pub decreases-loop-k : goal.decreases-loop-k
-decreases-loop-k l = l.n - l.k
+abbrev pub invariant-loop-k : goal.invariant-loop-k
+invariant-loop-k g l = Looking g.rule.save g.rule.own l.others l.m l.k l.count

@@ -1,10 +1,16 @@
--- What the loops of `backlog::whole_parts` keep.
-use Prim.Native.Nat.{◌-◌}
+-- What the loop of `backlog::whole_parts` keeps.
+use mathlib.Core.Path.{◌≡◌}
+use lib.ListN.{drop}
 use Rattle.pool_counts.specs.Looking.{Looking}
 use Rattle.pool_counts.proofs.backlog.whole_parts.Given as goal
 
-abbrev pub invariant-loop-k : goal.invariant-loop-k
-invariant-loop-k l = Looking l.save l.own.0 l.others l.m l.k l.count
+abbrev pub ghost-count_all : goal.ghost-count_all
+ghost-count_all g a = g.rule
 
-abbrev pub decreases-loop-k : goal.decreases-loop-k
-decreases-loop-k l = l.n - l.k
+abbrev pub invariant-loop-part : goal.invariant-loop-part
+invariant-loop-part g l =
+    record {
+      so_far : Looking g.rule.save g.rule.own l.others l.m l.looked l.count;
+      left : l.part-iterator.rest.now ≡ drop l.looked l.others;
+      size : l.part-iterator.size ≡ 1024;
+    }

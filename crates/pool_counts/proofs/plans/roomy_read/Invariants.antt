@@ -1,10 +1,6 @@
--- What the loops of `plans::roomy_read` keep.
-use Prim.Native.Nat.{◌-◌}
+-- What the loop of `plans::roomy_read` keeps.
 use Rattle.pool_counts.proofs.Frames.{ReadTurn}
 use Rattle.pool_counts.proofs.plans.roomy_read.Given as goal
 
 abbrev pub invariant-loop-i : goal.invariant-loop-i
-invariant-loop-i l = ReadTurn l.m l.plan l.i l.ceiling l.peak
-
-abbrev pub decreases-loop-i : goal.decreases-loop-i
-decreases-loop-i l = l.n - l.i
+invariant-loop-i g l = ReadTurn l.m l.plan l.i l.ceiling l.peak

@@ -1,7 +1,11 @@
 -- What the check leaves to say of `plans::roomy_save`.
+use Prim.Native.Nat.{◌≤◌, ◌<◌}
 use mathlib.Core.Path.{sym, ◌∙◌}
-use native.Mathlib.Omega.{arith}
-use Rattle.pool_counts.proofs.Frames.{roomy_ends, roomy_all, all_have_room}
+use mathlib.Core.Bool.{true}
+use Rattle.std.proofs.Common.{rules, tests}
+use Rattle.std.proofs.lemmas.Iterator.{first_from_Range}
+use Rattle.schedule.specs.Schedule.{o_backlog}
+use Rattle.pool_counts.proofs.Frames.{first_overfull, all_have_room}
 use Rattle.pool_counts.proofs.plans.roomy_save.Goals as goal
 
 pub returns-then-all_roomy_save : goal.returns-then-all_roomy_save
@@ -9,10 +13,11 @@ returns-then-all_roomy_save c =
     let args = c.args in
     all_have_room args.m args.plan.now (sym c.all_roomy_save.ensures ∙ c.if-all_roomy_save.true)
 
-pub returns-then-m-found : goal.returns-then-m-found
-returns-then-m-found c =
-    let inside = c.loop-i-test.true in
-    roomy_ends c.loop-i.invariant inside (omega (arith, c.backlog-found.ensures.count, c.if-m-found.true))
-
 pub returns : goal.returns
-returns c = roomy_all c.loop-i.invariant c.loop-i-test.false
+returns c =
+    let m = c.args.m in
+    let plan = c.args.plan.now in
+    c.unwrap_or.ensures
+    ∙ first_overfull true m plan _
+    (first_from_Range _ _ _ _ (λ i. m ≤ o_backlog plan i) (λ i. o_backlog plan i < m) c.find.ensures.ran
+    (λ x q k. search (rules, tests)) (λ x q k. search (rules, tests)))

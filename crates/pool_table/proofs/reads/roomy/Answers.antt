@@ -1,46 +1,19 @@
 -- What the check leaves to say of `reads::roomy`.
+use Prim.Native.Nat.{◌≤◌, ◌<◌}
 use native.Mathlib.Omega.{arith}
-use Rattle.pool_counts.proofs.Frames.{read_covered, read_all}
-use Rattle.pool_table.proofs.ReadTurns.{entry_is, table_ends, table_ahead}
+use lib.ListN.{length, get_or}
+use Rattle.std.proofs.Common.{rules}
+use Rattle.pool_table.proofs.ReadTurns.{place_inside, entry_is}
 use Rattle.pool_table.proofs.reads.roomy.Goals as goal
 
-pub overflow_sub-needed : goal.overflow_sub-needed
-overflow_sub-needed c =
-    let inv = c.loop-i.invariant in
-    let table = c.requires in
-    let ahead = c.if-ceiling-c.true in
-    let inside = c.loop-i-test.true in
-    omega (arith, entry_is inv inside c.cycle_index-c.ensures table ahead)
-
-pub returns-then-m-needed : goal.returns-then-m-needed
-returns-then-m-needed c =
-    let table = c.requires in
-    let ahead = c.if-ceiling-c.true in
-    let inv = c.loop-i.invariant in
-    let inside = c.loop-i-test.true in
+pub roomy_read-requires : goal.roomy_read-requires
+roomy_read-requires c =
     record {
-      roomy = table_ends inv inside c.cycle_index-c.ensures table ahead c.if-m-needed.true;
-      peak = inv.so_far;
-    }
-
-pub loop-i-preserved-then-ceiling-c : goal.loop-i-preserved-then-ceiling-c
-loop-i-preserved-then-ceiling-c c =
-    let inv = c.loop-i.invariant in
-    let table = c.requires in
-    let ahead = c.if-ceiling-c.true in
-    let room = c.if-m-needed.false in
-    let inside = c.loop-i-test.true in
-    table_ahead inv inside c.cycle_index-c.ensures table ahead room c.larger-peak.ensures
-
-pub loop-i-preserved : goal.loop-i-preserved
-loop-i-preserved c =
-    let inside = c.loop-i-test.true in
-    read_covered c.loop-i.invariant inside c.cycle_index-c.ensures c.if-ceiling-c.false
-
-pub returns : goal.returns
-returns c =
-    let clauses = read_all c.loop-i.invariant c.loop-i-test.false in
-    record {
-      roomy = clauses.0;
-      peak = clauses.1;
+      asked = λ i p inside cycle ahead.
+          let table = c.args.table.now in
+          let small : i < 65536 = omega (arith, inside, c.requires.low.few) in
+          let place : p < length table = place_inside c.requires inside cycle in
+          let later : i ≤ get_or table p 0 = omega (arith, entry_is c.requires inside cycle ahead) in
+          search rules;
+      told = λ i p r inside cycle ahead k. let entry = entry_is c.requires inside cycle ahead in search rules;
     }

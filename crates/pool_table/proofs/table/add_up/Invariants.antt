@@ -1,10 +1,9 @@
--- What the loops of `table::add_up` keep.
-use Prim.Native.Nat.{◌-◌, ◌≤◌}
+-- What the loop of `table::add_up` keeps.
+use mathlib.Core.List.{◌++◌}
+use Prim.Native.Nat.{◌+◌}
+use lib.ListN.{drop}
 use Rattle.pool_table.proofs.Adding.{Adding}
 use Rattle.pool_table.proofs.table.add_up.Given as goal
 
-abbrev pub invariant-loop-c : goal.invariant-loop-c
-invariant-loop-c l = (l.c ≤ l.n) × Adding l.plan l.table l.c l.sum
-
-abbrev pub decreases-loop-c : goal.decreases-loop-c
-decreases-loop-c l = l.n - l.c
+abbrev pub invariant-loop-count : goal.invariant-loop-count
+invariant-loop-count l = Adding l.plan (l.count-items ++ drop (l.fn.top.0 + 1) l.fn.table) l.count-index l.sum

@@ -9,12 +9,11 @@ returns-then-out-n c =
     no_room _ _ (omega (arith, plan_long c.args.cards.now (record { cycles = c.args.cycles.now; T = c.args.t.0 })))
 
 pub loop-i-init : goal.loop-i-init
-loop-i-init c = (omega arith, no_lines _ _ _)
+loop-i-init c = no_lines _ _ _
 
 pub loop-i-preserved : goal.loop-i-preserved
-loop-i-preserved c =
-    (omega arith, next_line _ _ _ _ _ _ c.loop-i.invariant.1 c.frame_line.ensures)
+loop-i-preserved c = next_line _ _ _ _ _ _ c.loop-i.invariant c.frame_line.ensures
 
 pub returns : goal.returns
 returns c =
-    put_all _ _ _ _ _ _ _ (omega arith) (omega arith) c.put4.ensures c.loop-i.invariant.1
+    put_all _ _ _ _ _ _ _ (omega arith) (omega arith) (rw c.from.ensures at c.put.ensures) c.loop-i.invariant

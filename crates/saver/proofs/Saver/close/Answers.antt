@@ -6,14 +6,9 @@ use Rattle.saver.proofs.Forming.{formed_closing, given_formed}
 use Rattle.saver.proofs.Saving.{is_closed}
 use Rattle.saver.proofs.Saver.close.Goals as goal
 
-pub returns-then-self-lt1 : goal.returns-then-self-lt1
-returns-then-self-lt1 c =
-    let clauses = is_closed c.requires (c.refused.ensures ∙ sym (close_empty _ (omega arith))) in
-    record {
-      answer = clauses.0;
-      given = clauses.1.0;
-      greedy = clauses.1.1;
-    }
+pub returns-then-self-lt1-clause-answer : goal.returns-then-self-lt1-clause-answer
+returns-then-self-lt1-clause-answer c =
+    c.refused.ensures ∙ sym (close_empty _ (omega arith))
 
 pub one_cycle-requires : goal.one_cycle-requires
 one_cycle-requires c = formed_closing _ (given_formed c.requires)

@@ -7,38 +7,21 @@ use Rattle.saver.proofs.Forming.{given_formed}
 use Rattle.saver.proofs.Saving.{is_saved, room_after}
 use Rattle.saver.proofs.Saver.save.Goals as goal
 
-pub returns-then-self : goal.returns-then-self
-returns-then-self c =
-    let clauses = is_saved _ c.requires (c.refused.ensures ∙ sym (save_closed _ _ c.if-self.true)) in
-    record {
-      answer = clauses.0;
-      given = clauses.1.0;
-      greedy = clauses.1.1;
-    }
+pub returns-then-self-clause-answer : goal.returns-then-self-clause-answer
+returns-then-self-clause-answer c =
+    c.refused.ensures ∙ sym (save_closed _ _ c.if-self.true)
 
-pub returns-then-self-card : goal.returns-then-self-card
-returns-then-self-card c =
-    let clauses = is_saved _ c.requires (c.refused-then-self-card.ensures ∙ sym (save_no_card _ _ c.if-self.false (omega arith))) in
-    record {
-      answer = clauses.0;
-      given = clauses.1.0;
-      greedy = clauses.1.1;
-    }
+pub returns-then-self-card-clause-answer : goal.returns-then-self-card-clause-answer
+returns-then-self-card-clause-answer c =
+    c.refused-then-self-card.ensures ∙ sym (save_no_card _ _ c.if-self.false (omega arith))
 
-pub returns-then-self-ge-MAX_FRAMES : goal.returns-then-self-ge-MAX_FRAMES
-returns-then-self-ge-MAX_FRAMES c =
-    let refused = c.refused-then-self-ge-MAX_FRAMES.ensures in
-    let clauses = is_saved _ c.requires (refused ∙ sym (save_all_taken _ _ c.if-self.false (omega arith) (omega arith))) in
-    record {
-      answer = clauses.0;
-      given = clauses.1.0;
-      greedy = clauses.1.1;
-    }
+pub returns-then-self-ge-MAX_FRAMES-clause-answer : goal.returns-then-self-ge-MAX_FRAMES-clause-answer
+returns-then-self-ge-MAX_FRAMES-clause-answer c =
+    c.refused-then-self-ge-MAX_FRAMES.ensures ∙ sym (save_all_taken _ _ c.if-self.false (omega arith) (omega arith))
 
 pub enter-requires : goal.enter-requires
 enter-requires c =
-    let given = c.requires in
-    record { place = omega (arith, (given_formed given).small_pool); number = omega arith }
+    record { place = omega (arith, (given_formed c.requires).small_pool); number = omega arith }
 
 pub returns-then-self-2 : goal.returns-then-self-2
 returns-then-self-2 c =
@@ -51,14 +34,10 @@ returns-then-self-2 c =
     }
 
 pub one_cycle-requires : goal.one_cycle-requires
-one_cycle-requires c =
-    let given = c.requires in
-    given_formed given
+one_cycle-requires c = given_formed c.requires
 
 pub then_enter-requires : goal.then_enter-requires
-then_enter-requires c =
-    let given = c.requires in
-    room_after given (omega arith) (omega arith) c.one_cycle.ensures
+then_enter-requires c = room_after c.requires (omega arith) (omega arith) c.one_cycle.ensures
 
 pub returns : goal.returns
 returns c =

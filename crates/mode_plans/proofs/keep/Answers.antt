@@ -1,8 +1,0 @@
--- What the check leaves to say of `keep`.
-use native.Mathlib.Omega.{arith}
-use Rattle.counting.proofs.Firsts.{replaced_next}
-use Rattle.mode_plans.proofs.keep.Goals as goal
-
-pub loop-i-preserved : goal.loop-i-preserved
-loop-i-preserved c =
-    (omega arith, replaced_next c.loop-i.invariant.1 _ (omega (arith, c.requires)) c.as_of-shown.ensures)

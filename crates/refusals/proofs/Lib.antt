@@ -1,0 +1,2 @@
+-- The laws of this crate.
+pub mod Main

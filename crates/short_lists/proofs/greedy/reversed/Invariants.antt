@@ -1,9 +1,0 @@
--- What the loops of `greedy::reversed` keep.
-use Rattle.std.proofs.Common.{◌-◌, ◌≤◌}
-use Rattle.short_lists.proofs.greedy.reversed.Given as goal
-
-abbrev pub invariant-loop-i : goal.invariant-loop-i
-invariant-loop-i l = l.i ≤ l.n
-
-abbrev pub decreases-loop-i : goal.decreases-loop-i
-decreases-loop-i l = l.n - l.i

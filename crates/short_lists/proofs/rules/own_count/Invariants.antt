@@ -1,9 +1,0 @@
--- What the loops of `rules::own_count` keep.
-use Rattle.std.proofs.Common.{◌-◌, ◌≤◌}
-use Rattle.short_lists.proofs.rules.own_count.Given as goal
-
-abbrev pub invariant-loop-j : goal.invariant-loop-j
-invariant-loop-j l = l.j ≤ l.c.n
-
-abbrev pub decreases-loop-j : goal.decreases-loop-j
-decreases-loop-j l = l.c.n - l.j
