@@ -59,7 +59,9 @@ fn links_lead_to_files() {
         "README.md",
         "docs/API.md",
         "docs/DECISIONS.md",
+        "docs/DESIGN-PASS.md",
         "docs/FORMAT.md",
+        "docs/PORT.md",
         "docs/PROMISES.md",
         "docs/SPEED.md",
     ];
