@@ -1,8 +1,7 @@
 // The field hub: the cards of the frames, by the camera of each, and the lent buffer afterwards.
 // Patterns and cameras are written with a digit each; L is 255.
-use crate::{output, tables};
+use crate::{output, tables, turned_down};
 use firmware::hubs::dockplan_hub;
-use refusals::Refusal;
 use std::io;
 
 // The most patterns, and the most frames and places, that are shown.
@@ -10,17 +9,9 @@ pub(crate) const PATTERNS: usize = 8;
 
 pub(crate) const PLACES: usize = 64;
 
-// The refusal, 0 for none, and how many cards were given, 0 beside a refusal.
-pub(crate) fn numbers(a: Result<u16, Refusal>) -> (u8, u16) {
-    match a {
-        Ok(frames) => (0, frames),
-        Err(refusal) => (u8::from(refusal), 0),
-    }
-}
-
 // The two ways to call the hub.
 pub(crate) fn own(chosen: &[u8], cameras: &[u8], lent: &mut [u8]) -> (u8, u16) {
-    numbers(hub::gather(chosen, cameras, lent))
+    turned_down::numbers(hub::gather(chosen, cameras, lent))
 }
 
 pub(crate) fn library(chosen: &[u8], cameras: &[u8], lent: &mut [u8]) -> (u8, u16) {

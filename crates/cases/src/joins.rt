@@ -1,20 +1,11 @@
 // Joined tickets: the answer, and the lent buffer afterwards.
-use crate::{output, tables};
+use crate::{output, tables, turned_down};
 use firmware::joins::dockplan_join;
-use refusals::Refusal;
 use std::io;
-
-// The refusal, 0 for none, and the bytes of the joined ticket, 0 beside a refusal.
-pub(crate) fn numbers(a: Result<usize, Refusal>) -> (u8, usize) {
-    match a {
-        Ok(bytes) => (0, bytes),
-        Err(refusal) => (u8::from(refusal), 0),
-    }
-}
 
 // The two ways to call the join.
 pub(crate) fn own(first: &[u8], second: &[u8], lent: &mut [u8]) -> (u8, usize) {
-    numbers(join::join(first, second, lent))
+    turned_down::numbers(join::join(first, second, lent))
 }
 
 pub(crate) fn library(first: &[u8], second: &[u8], lent: &mut [u8]) -> (u8, usize) {

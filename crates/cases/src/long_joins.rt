@@ -2,7 +2,7 @@
 ghost use Rattle.std.specs.Prelude.{◌≤◌};
 
 use crate::long_lists::{self, Layout};
-use crate::{joins, output, tables};
+use crate::{output, tables, turned_down};
 use plain_answers::tickets::refusal_number;
 use std::io;
 
@@ -24,7 +24,7 @@ fn bytes_of(header: &[u8]) -> usize
 // The answer, the checksum of the lent buffer afterwards, and the refusal of the joined ticket when it is read.
 fn shown(rt: &impl Print, first: &[u8], second: &[u8], lent: &mut [u8]) -> io::Result<()> {
     let a = join::join(first, second, lent);
-    let (refusal, bytes) = joins::numbers(a);
+    let (refusal, bytes) = turned_down::numbers(a);
     let sum = long_lists::checksum(lent);
     print!(rt; "{:6}{refusal:9}{bytes:7}{sum:10}", lent.len())?;
     if let Ok(bytes) = a {

@@ -88,6 +88,7 @@ fn save(rt: &impl Print, s: Saver, card: u8, calls: Calls) -> io::Result<Saver>
     }
 }
 
+// A byte picks the call: each byte that is none of the two letters is a save on a card, so that an enum of the calls would be made for one match.
 fn call(rt: &impl Print, s: Saver, b: u8, calls: Calls) -> io::Result<Saver>
     requires { Given s }
     ensures { IfOk result (λ made. Given made) }

@@ -130,7 +130,8 @@ pub(crate) fn each(rt: &impl Print, table: &[u8]) -> io::Result<()> {
     Ok(())
 }
 
-// The number that a byte of an entry stands for: a digit, or a letter for one at a limit.
+// The number that a byte of an entry stands for: a digit, or a letter for one at a limit. The letters stand for numbers, and an enum of them would be
+// turned into these at once.
 pub(crate) fn number(b: u8) -> u16 {
     match b {
         b'C' => 32,

@@ -10,6 +10,11 @@ fn number<T: Copy>(answer: Result<T, Refusal>) -> u8 {
     refusal_number(answer.err())
 }
 
+// A call's refusal, 0 for none, and what it answers, 0 beside a refusal.
+pub(crate) fn numbers<T: Copy + Default>(answer: Result<T, Refusal>) -> (u8, T) {
+    (number(answer), answer.unwrap_or_default())
+}
+
 // The reader's calls: heading, parse, refusal, line_refusal; the bytes of the line; the first cards of parse; the first counts.
 fn reader(rt: &impl Print, t: &[u8], p: Position) -> io::Result<()> {
     let ticket = ticket::parse(t);

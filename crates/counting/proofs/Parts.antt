@@ -8,8 +8,9 @@ use native.Mathlib.Nat.{sub-zero, zero-sub, suc-sub-suc, zero-add, add-zero, suc
 use native.Mathlib.Decide.{dec_lt}
 use lib.Dec.{ltb}
 use lib.ListN.{length, get_or, take, drop, set, replicate, length-drop, length-append, length-take}
-use lib.Seq.{take_all, take-add, take-nil, drop-cons, drop-drop, get_or-drop, set_at, set_comm, sets, length-sets, get_or-set_same, get_or-set_other}
+use lib.Seq.{take_all, take-add, take-nil, drop-cons, drop-drop, get_or-drop, set_at, set_comm, sets, sets-eq, length-sets, get_or-set_same, get_or-set_other}
 use borrow.Author.Tests.{lt-ltb, le-ltb}
+use borrow.Rule.Slice.PartMut.{put_mid}
 use Rattle.counting.specs.Count.{written}
 
 -- the part of a list from place k on, as a borrowed part `&s[k..]` is written
@@ -47,6 +48,12 @@ sets_append l i [] b k e =
     let f : k ≡ i = omega (arith, e) in
     rw f
 sets_append l i (x ∷ a) b k e = sets_append (set l i x) (suc i) a b k (omega (arith, e))
+
+-- a part of a list that is copied over is a run of stores
+pub part_put :
+    (at n : ℕ) (l part values : List ℕ) → part ≡ values → n ≡ length values → at + length values ≤ length l → put_mid at n l part ≡ sets l at values
+part_put at n l part values e f h =
+    rw (e, f, sets-eq values l at h, drop-drop) (sym (append_assoc (take at l) values (drop (at + length values) l)))
 
 -- a store before a run of stores, and a run before where it begins: the order does not matter
 pub set_sets : (l : List ℕ) (i k x : ℕ) (b : List ℕ) → i < k → set (sets l k b) i x ≡ sets (set l i x) k b

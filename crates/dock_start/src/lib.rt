@@ -12,6 +12,7 @@ use header::{Header, limits};
 use refusals::Refusal;
 
 // An empty dock for a list that is read: the cards of its frames stand at the front of `card`, and then of memory, none held.
+// `Fits` is asked here and has no type: clause `reads` of `ticket::read` has header and cards apart.
 fn start_list(h: Header, card: &[u8], memory: &mut [u8]) -> Result<Dock, Refusal>
     requires { Fits h (take h.frames card.now) }
     ensures answer { told result ≡ start_of (accepted h (take h.frames card.now)) (length memory.old) }

@@ -23,6 +23,7 @@ pub extern "C" fn dockplan_line(ticket: &[u8], p: Position) -> Part
 }
 
 // The number that goes with the line.
+// A number, 0 for none: C has no Option.
 #[unsafe(no_mangle)]
 pub extern "C" fn dockplan_line_refusal(ticket: &[u8], p: Position) -> u8
     ensures { result ≡ line_refusal_of (parse ticket.now) p.0 }

@@ -85,6 +85,7 @@ pub(crate) fn read<S: Second>(
         if s[at + width] != text::END {
             return i;
         }
+        // below `cards`, so it fits: a `try_from` would answer a Result that is never an Err
         card[i] = number as u8;
         last = second;
         at += width + 1;

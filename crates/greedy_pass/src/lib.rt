@@ -70,6 +70,7 @@ fn turns<const BACK: bool>(cards: &[u8], m: u16, out: &mut [u16]) -> Cycles
 }
 
 // The pass from the front of the list or, where `back` says so, from its back.
+// The flag stays: docs/DECISIONS.md names this call, and its clauses speak of `back`.
 pub fn pass(cards: &[u8], m: u16, back: bool, out: &mut [u16]) -> Cycles
     requires { Asked m cards.now out.old }
     ensures { Passed m back cards.now out.old out.new result.made.0 result.all.0 }

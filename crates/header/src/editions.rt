@@ -3,6 +3,7 @@ ghost use Rattle.std.specs.Prelude.{◌≡◌};
 ghost use Rattle.header.specs.Heading.{low_edition};
 ghost use Rattle.header.specs.Editions.{known, line_digits};
 
+// The editions are numbers, as `header_of` gives every text one, also one that is not read.
 pub const EDITION_1: u8 = 1;
 
 pub const EDITION_2: u8 = 2;

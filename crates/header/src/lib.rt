@@ -62,6 +62,7 @@ fn read_heading(digits: &Digits, t: &[u8]) -> Result<Header, Refusal>
     ensures { told result ≡ heading t.now }
 {
     if digits.is_line(t, 0, 14) {
+        // Two digits fit in a u8 and four in a u16: a `try_from` would answer a Result that is never an Err.
         header_answer(Header {
             edition: digits.number(t, 0, 2) as u8,
             mode: digits.number(t, 2, 2) as u8,

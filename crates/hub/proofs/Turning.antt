@@ -41,12 +41,6 @@ eight_bytes word =
     let b7 : word / 256 / 256 / 256 / 256 / 256 / 256 / 256 % 256 ≡ word / 72057594037927936 % 256 = omega arith in
     rw (b2, b3, b4, b5, b6, b7)
 
--- a part of a list that is copied over is a run of stores
-pub part_put :
-    (at n : ℕ) (l part values : List ℕ) → part ≡ values → n ≡ length values → at + length values ≤ length l → put_mid at n l part ≡ sets l at values
-part_put at n l part values e f h =
-    rw (e, f, sets-eq values l at h, drop-drop) (sym (append_assoc (take at l) values (drop (at + length values) l)))
-
 -- the lowest byte of a number, and the others
 low_byte : (b rest : ℕ) → b < 256 → (b + rest * 256) % 256 ≡ b
 low_byte b rest h = omega arith

@@ -54,6 +54,7 @@ fn refused(chosen: &[u8], cameras: &[u8], places: usize) -> Result<(), Refusal>
 
 // Writes the cards of the frames from one place of the list up to another, frame by frame: a camera's next card is the lowest byte of its word, which then
 // turns to the next one.
+// `from` and `to` stand beside the list, since the clause speaks of places of the whole list.
 fn place_each(cameras: &[u8], from: usize, to: usize, words: &mut [u64; CAMERAS], cards: &mut [u8])
     requires { Inside cameras.now from to (length cards.old) }
     ensures { Places cameras.now from to words.old cards.old words.new cards.new }
@@ -61,6 +62,7 @@ fn place_each(cameras: &[u8], from: usize, to: usize, words: &mut [u64; CAMERAS]
     for i in from..to {
         let camera = usize::from(cameras[i]);
         let word = words[camera];
+        // cut off on purpose
         cards[i] = (word % 256) as u8;
         words[camera] = words::turned(word);
     }
@@ -111,5 +113,6 @@ pub fn gather(chosen: &[u8], cameras: &[u8], cards: &mut [u8]) -> Result<u16, Re
 {
     refused(chosen, cameras, cards.len())?;
     place(chosen, cameras, cards);
+    // at most 4,096: a `try_from` would answer a Result that is never an Err
     Ok(cameras.len() as u16)
 }

@@ -18,7 +18,7 @@ fn answer_of(a: Result<u16, Refusal>) -> usize {
     }
 }
 
-// How many places of a lent buffer are not as wanted.
+// How many places of a lent buffer are not as wanted: a number, where `==` would tell only that there are any.
 fn unlike(wanted: &[u8; PLACES], buffer: &[u8; PLACES]) -> usize {
     wanted
         .iter()

@@ -30,7 +30,7 @@ fn digit(x: usize) -> u8 {
     if low < 10 { b'0' + low } else { b'7' + low }
 }
 
-// The ticket of n frames, a read with no pool, followed by more lines.
+// The ticket of n frames, a read with no pool, followed by more lines: n is what the header tells, and no length of the cards.
 pub(crate) fn text_of(cards: &[u8; PLACES], n: usize) -> Text {
     let mut text = *b"01000800000000\n\
 00\n00\n00\n00\n00\n00\n00\n00\n00\n00\n00\n00\n00\n00\n00\n00\n00\n00\n00\n00\n00\n00\n00\n00\n";

@@ -96,6 +96,7 @@ fn join_read(
             frames,
         },
     );
+    // the two counts, and the bytes below, widen by `as`: by `usize::from`, as tried, each of five answers has to say once more that the number is the same
     merged_lines::put_merged(
         &first[15..],
         g.frames as usize,

@@ -80,9 +80,3 @@ eight_bytes v =
     let b6 : v / 256 / 256 / 256 / 256 / 256 / 256 % 256 ≡ v / 281474976710656 % 256 = omega arith in
     let b7 : v / 256 / 256 / 256 / 256 / 256 / 256 / 256 % 256 ≡ v / 72057594037927936 % 256 = omega arith in
     rw (b2, b3, b4, b5, b6, b7)
-
--- a part of a list that is copied over is a run of stores
-pub part_put :
-    (at n : ℕ) (l part values : List ℕ) → part ≡ values → n ≡ length values → at + length values ≤ length l → put_mid at n l part ≡ sets l at values
-part_put at n l part values e f h =
-    rw (e, f, sets-eq values l at h, drop-drop) (sym (append_assoc (take at l) values (drop (at + length values) l)))

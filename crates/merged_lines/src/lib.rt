@@ -27,6 +27,7 @@ fn put_line(s: &[u8], from: usize, key: u64, out: &mut [u8], at: usize)
 {
     packed::put_eight(out, at + 2, key);
     let card = packed::upper_two(s[from], s[from + 1]);
+    // cut off on purpose: two stores by place, of which the compiler makes one
     out[at] = (card % 256) as u8;
     out[at + 1] = (card / 256) as u8;
     out[at + 10] = text::END;
@@ -87,6 +88,7 @@ impl<'a> Side<'a> {
 
 // Writes the n lines of `a` and the m lines of `b`, merged, from a place of `out` on. Each turn writes the line with the smaller key, that of `a`
 // where both have the same, and then reads the next key of that side alone.
+// n and m stand beside the texts, as in the clause: a text goes on as far as the ticket does.
 pub fn put_merged(a: &[u8], n: usize, b: &[u8], m: usize, out: &mut [u8], at: usize)
     requires { HasLines a.now n × HasLines b.now m × (n + m ≤ max_frames) × (at + 11 * (n + m) ≤ length out.old) }
     ensures { out.new ≡ sets out.old at (merged_text a.now n b.now m) }

@@ -48,7 +48,7 @@ fn fault(verdict: u8, p: Position) -> CheckAnswer
 {
     CheckAnswer {
         refusal: 0,
-        verdict: verdict,
+        verdict,
         position: p,
         cycles: Cycle(0),
         peak: 0,

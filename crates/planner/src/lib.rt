@@ -14,6 +14,7 @@ use header::{Header, limits};
 use refusals::Refusal;
 
 // Plans a list that is read: the cards of its frames stand at the front of `card`.
+// `Fits` is asked here and has no type: clause `reads` of `ticket::read` has header and cards apart.
 fn plan_list(h: Header, card: &[u8], out: &mut [u16]) -> Result<Cycle, Refusal>
     requires { Fits h (take h.frames card.now) }
     ensures { Answered (accepted h (take h.frames card.now)) out.old out.new (told result) }

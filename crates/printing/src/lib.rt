@@ -20,6 +20,7 @@ pub const INPUT: usize = 65536;
 pub const LONGEST: usize = 5 + 11 * limits::FRAMES;
 
 // A buffer for the program's input, all zeros.
+// Not one function with `text_buffer`: each is `[0; N]`, and its clauses name its own length.
 pub fn input_buffer() -> [u8; INPUT]
     ensures long { input_bytes ≡ length result }
     ensures zeros { result ≡ replicate input_bytes 0 }
@@ -36,6 +37,7 @@ pub fn text_buffer() -> [u8; LONGEST]
 }
 
 // Prints the plan of a list that is read: the cards of its frames stand at the front of `card`.
+// `Fits` is asked here and has no type: clause `reads` of `ticket::read` has header and cards apart.
 fn print_list(h: Header, card: &[u8], out: &mut [u8]) -> usize
     requires { Fits h (take h.frames card.now) }
     ensures { Put (text_of (accepted h (take h.frames card.now))) out.old out.new result }

@@ -8,6 +8,7 @@ use counting::{Cycle, Position};
 use text::write::DigitTexts;
 
 // T, and for each frame a line with its position, its card and its cycle.
+// Cards and cycles are two slices: the reader's and the planner's. A struct of both would be read by its fields in each clause.
 pub(crate) fn plan(cards: &[u8], cycles: &[u16], t: Cycle, out: &mut [u8]) -> usize
     requires { (length cards.now ≤ max_frames) × (length cycles.now ≡ length cards.now) }
     ensures { Put (plan_text cards.now (record { cycles = cycles.entry.now; T = t.0 })) out.old out.new result }
@@ -24,6 +25,7 @@ pub(crate) fn plan(cards: &[u8], cycles: &[u16], t: Cycle, out: &mut [u8]) -> us
             &digits,
             out,
             5 + 11 * i,
+            // i is below 4,096: a `try_from` would answer a Result that is never an Err
             Position(i as u16),
             *card,
             Cycle(cycles[i]),

@@ -4,8 +4,10 @@ use Rattle.std.specs.Option.{is_some}
 use Rattle.std.proofs.Common.{arith, Option, Some, None, true, false, ◌<◌, ℕ, ◌≡◌, refl, sym, ap, ◌∙◌, cond, eqb}
 use Rattle.refusals.specs.Numbers.{number_of, number_or_0}
 use Rattle.refusals.specs.declared.Refusal.{Refusal}
-use Rattle.refusals.specs.declared.Refusal.TheVariants.{NoHeader, UnknownEdition, UnknownMode, CardCount, PoolSize, TooManyFrames, NoLine, NoSuchCard, BytesFollow, NoRoom, PlanLength}
-use Rattle.refusals.specs.declared.Refusal.TheVariants.{KeepNotChecked, SaverFull, NothingWaiting, ClosingBegun, NoSuchPosition, SecondFalls, Unlike, JoinedTooLong, HubSetUp, NoSuchCamera}
+use Rattle.refusals.specs.declared.Refusal.TheVariants.{NoHeader, UnknownEdition, UnknownMode, CardCount, PoolSize, TooManyFrames}
+use Rattle.refusals.specs.declared.Refusal.TheVariants.{NoLine, NoSuchCard, BytesFollow, NoRoom, PlanLength, KeepNotChecked}
+use Rattle.refusals.specs.declared.Refusal.TheVariants.{SaverFull, NothingWaiting, ClosingBegun, NoSuchPosition, SecondFalls, Unlike}
+use Rattle.refusals.specs.declared.Refusal.TheVariants.{JoinedTooLong, HubSetUp, NoSuchCamera}
 
 -- the refusal with a number
 of_number : ℕ → Refusal

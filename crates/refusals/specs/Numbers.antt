@@ -3,7 +3,10 @@
 -- Assumes nothing.
 use Rattle.std.specs.Prelude.{ℕ, Option, None, Some, Result, Ok, Err}
 use Rattle.refusals.specs.declared.Refusal.{Refusal}
-use Rattle.refusals.specs.declared.Refusal.TheVariants.{NoHeader, UnknownEdition, UnknownMode, CardCount, PoolSize, TooManyFrames, NoLine, NoSuchCard, BytesFollow, NoRoom, PlanLength, KeepNotChecked, SaverFull, NothingWaiting, ClosingBegun, NoSuchPosition, SecondFalls, Unlike, JoinedTooLong, HubSetUp, NoSuchCamera}
+use Rattle.refusals.specs.declared.Refusal.TheVariants.{NoHeader, UnknownEdition, UnknownMode, CardCount, PoolSize, TooManyFrames}
+use Rattle.refusals.specs.declared.Refusal.TheVariants.{NoLine, NoSuchCard, BytesFollow, NoRoom, PlanLength, KeepNotChecked}
+use Rattle.refusals.specs.declared.Refusal.TheVariants.{SaverFull, NothingWaiting, ClosingBegun, NoSuchPosition, SecondFalls, Unlike}
+use Rattle.refusals.specs.declared.Refusal.TheVariants.{JoinedTooLong, HubSetUp, NoSuchCamera}
 
 abbrev pub number_of : Refusal → ℕ
 number_of NoHeader = 1

@@ -50,6 +50,7 @@ impl From<Refusal> for u8 {
     ghost from_gives = { λ refusal number. number ≡ number_of refusal };
 
     fn from(refusal: Refusal) -> u8 {
+        // by `as`: an enum has no From for its number
         refusal as u8
     }
 }

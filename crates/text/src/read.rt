@@ -11,6 +11,7 @@ pub struct Digits {
 
 impl Digits {
     pub fn new() -> Digits {
+        // No loop: it is a table, and each line one entry of it.
         let mut value = [255u8; 256];
         value[48] = 0;
         value[49] = 1;
@@ -64,6 +65,7 @@ impl Digits {
     }
 
     // The value of the n digits from a place on, 8 at most.
+    // One function with that of wide.rt is no plainer: the table, the width of the sum and both clauses differ.
     pub fn number(&self, s: &[u8], at: usize, n: usize) -> u32
         requires { (n ≤ 8) × (at + n ≤ length s.now) × (digits s.now at n ≡ true) }
         ensures { (result ≡ number s.now at n) × (result < 16 ^ n) }

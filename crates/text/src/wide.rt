@@ -6,6 +6,7 @@ ghost use Rattle.text.specs.Wide.{wide, wide_values, wide_number};
 use crate::read::Digits;
 
 // Larger than every number of 8 digits.
+// So one comparison tells for eight bytes, where an Option would be asked for at each.
 pub const NO_NUMBER: u64 = 4294967296;
 
 // A digit's value, and NO_NUMBER for what is none.

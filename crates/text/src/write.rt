@@ -32,6 +32,7 @@ impl DigitTexts {
     {
         let mut rest = v;
         for k in (0..N).rev() {
+            // below 16: a `try_from` would answer a Result that is never an Err
             out[at + k] = self.digit((rest % 16) as u8);
             rest /= 16;
         }

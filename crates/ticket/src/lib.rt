@@ -98,11 +98,12 @@ pub fn line_digits(t: &[u8]) -> usize
 pub fn line_start(t: &[u8], p: Position) -> usize
     ensures { result ≡ line_start t.now p.0 }
 {
-    15 + (line_digits(t) + 1) * (p.0 as usize)
+    15 + (line_digits(t) + 1) * usize::from(p.0)
 }
 
 // The line of the frame at a position: the digits of its card and, in edition 02, of its second, a part of the caller's ticket. Empty with a
 // refusal.
+// No Option: document 01 has the empty part there, and this call cannot fail.
 pub fn line(t: &[u8], p: Position) -> &[u8]
     ensures line { result.now ≡ line_of t.now p.0 }
     ensures stands { result.ref_ptr ≡ address t.entry.ref_ptr (line_place t.now p.0) }
@@ -116,6 +117,7 @@ pub fn line(t: &[u8], p: Position) -> &[u8]
 }
 
 // How many frames each of the 32 cards has; all 0 with a refusal.
+// No Result: document 01 has zeros there, and this call cannot fail.
 pub fn counts(t: &[u8]) -> [u16; limits::CARDS]
     ensures { result ≡ counts_of (parse t.now) }
 {
@@ -138,6 +140,7 @@ fn second_in(t: &[u8], h: Header, p: Position) -> u32
 }
 
 // The capture second of the frame at a position; 0 where there is none: in edition 01, past the last frame, and with a refusal.
+// No Option: document 01 has 0 there, and this call cannot fail.
 pub fn second(t: &[u8], p: Position) -> u32
     ensures { result ≡ second_of (seconds_of t.now) p.0 }
 {

@@ -18,6 +18,7 @@ pub struct Walker<'a> {
 }
 
 // What a step gives: a line, or the empty part at the end, and the walker after it.
+// No Option: document 01 has the empty part for the end (`line_not_end`).
 #[derive(Clone, Copy)]
 pub struct Stepped<'a> {
     pub line: &'a [u8],

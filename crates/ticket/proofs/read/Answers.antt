@@ -5,6 +5,3 @@ use Rattle.ticket.proofs.read.Goals as goal
 
 pub returns-clause-reads : goal.returns-clause-reads
 returns-clause-reads c = (contract _ _ _ _ c.read_any.ensures.0 c.read_any.ensures.1 (omega arith)).1.1.1
-
-pub returns-clause-numbers : goal.returns-clause-numbers
-returns-clause-numbers c = (contract _ _ _ _ c.read_any.ensures.0 c.read_any.ensures.1 (omega arith)).1.0

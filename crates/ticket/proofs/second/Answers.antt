@@ -7,6 +7,3 @@ use Rattle.ticket.proofs.second.Goals as goal
 
 pub returns-in-Err : goal.returns-in-Err
 returns-in-Err c = refused_second _ _ _ (sym c.read.ensures.answer ∙ ap told c.in-Err.is)
-
-pub second_in-requires : goal.second_in-requires
-second_in-requires c = sym c.read.ensures.answer ∙ ap told c.in-Ok.is

@@ -3,12 +3,8 @@ use Prim.Native.Nat.{◌+◌, min}
 use mathlib.Core.Path.{◌≡◌, refl}
 use native.Mathlib.Omega.{arith}
 use Rattle.dock.specs.State.{most_cycles}
-use Rattle.dock.proofs.Taken.{end_over_pool, end_within}
+use Rattle.dock.proofs.Taken.{end_within}
 use Rattle.dock.proofs.steps.end_cycle.Goals as goal
-
-pub returns-then-dock : goal.returns-then-dock
-returns-then-dock c =
-    rw c.break_off.ensures (end_over_pool c.args.dock _ c.if-dock.true)
 
 pub returns : goal.returns
 returns c =

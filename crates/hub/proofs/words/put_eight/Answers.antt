@@ -4,7 +4,8 @@ use mathlib.Core.Path.{ap, ◌∙◌}
 use mathlib.Core.List.{List}
 use native.Mathlib.Omega.{arith}
 use lib.Seq.{sets}
-use Rattle.hub.proofs.Turning.{eight_bytes, part_put}
+use Rattle.counting.proofs.Parts.{part_put}
+use Rattle.hub.proofs.Turning.{eight_bytes}
 use Rattle.hub.proofs.words.put_eight.Goals as goal
 
 pub returns : goal.returns

@@ -4,7 +4,8 @@ use mathlib.Core.Path.{ap, ◌∙◌}
 use mathlib.Core.List.{List}
 use Prim.Native.Nat.{ℕ}
 use lib.Seq.{sets}
-use Rattle.merged_lines.proofs.Packing.{eight_bytes, part_put}
+use Rattle.counting.proofs.Parts.{part_put}
+use Rattle.merged_lines.proofs.Packing.{eight_bytes}
 use Rattle.merged_lines.proofs.packed.put_eight.Goals as goal
 
 pub returns : goal.returns

@@ -3,7 +3,7 @@ use Prim.Native.Nat.{◌+◌}
 use mathlib.Core.Path.{refl}
 use native.Mathlib.Omega.{arith}
 use lib.ListN.{get_or}
-use Rattle.std.proofs.Common.{◌≡◌, ◌<◌}
+use Rattle.std.proofs.Common.{◌<◌}
 use Rattle.text.specs.Text.{digit}
 use Rattle.text.specs.Wide.{wide_number}
 use Rattle.text.proofs.Digits.{part_at, part_long}
@@ -37,10 +37,3 @@ loop-b-preserved c =
     let inside : k < a.n = omega (arith, c.loop-b-test.true, part_long a.s.now a.at a.n c.requires.1) in
     let value-is = rw (part_at a.s.now a.at a.n k inside) at c.digit.ensures in
     omega (arith, c.loop-b.invariant, value-is, wide_on a.s.now a.at k)
-
-pub returns : goal.returns
-returns c =
-    let a = c.args in
-    let long = part_long a.s.now a.at a.n c.requires.1 in
-    let e : c.loop-b.b-index ≡ a.n = omega (arith, c.loop-b-test.false, c.loop-b.auto.b-index-end, long) in
-    rw e at c.loop-b.invariant
