@@ -204,7 +204,7 @@ typedef struct {
  * DOCKPLAN_MAX_FRAMES places are always enough. */
 dockplan_hub_answer dockplan_hub(const uint8_t *patterns, size_t cameras, const uint8_t *list, size_t frames,
                                  uint8_t *cards, size_t places);
-#define DOCKPLAN_STACK_HUB 168
+#define DOCKPLAN_STACK_HUB 192
 
 /* ---- Plans that anyone made ---------------------------------------------------------------------------------- */
 
