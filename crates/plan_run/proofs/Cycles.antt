@@ -1,17 +1,19 @@
 -- The steps of a plan one after the other: the reads of a cycle, its end, and the cycles up to the last.
 -- Assumes nothing.
 use Prim.Native.Nat.{ℕ, zero, suc, ◌+◌, ◌-◌, ◌≤◌, ◌<◌, min}
-use mathlib.Core.Path.{◌≡◌, refl, sym, ap}
+use mathlib.Core.Path.{◌≡◌, refl, sym, ap, ◌∙◌}
 use mathlib.Core.List.{List, [], ◌∷◌, ◌++◌, append_assoc, append-nil}
 use native.Mathlib.Omega.{arith}
 use native.Mathlib.Numerals.{add-one}
 use lib.Dec.{ltb}
-use lib.ListN.{length, get_or}
-use mathlib.Core.Bool.{true, false}
-use Rattle.std.specs.Prelude.{Option, None, Some, nat_eq}
+use lib.ListN.{length, get_or, take}
+use mathlib.Core.Bool.{true, false, cond}
+use Rattle.std.specs.Prelude.{Option, None, Some, Result, Ok, Err, nat_eq}
+use Rattle.std.specs.Result.{OkIff, result_ok}
 use Rattle.std.specs.Option.{option_eq}
 use Rattle.std.specs.List.{filter, reduce, fold}
 use borrow.Author.Tests.{eq-eqb, ne_eqb, ltb-true, ltb-false}
+use Rattle.std.proofs.lemmas.List.Sums.{fold_more}
 use Rattle.counting.proofs.Bits.{by_cases}
 use Rattle.schedule.specs.Schedule.{cycle_of}
 use Rattle.schedule.specs.Dock.{Step, read_frame, end_cycle, empty_dock, run}
@@ -151,3 +153,52 @@ module _ (t : ℕ) where
       by_cases (ltb t x)
       (λ e. rw e (let r = least x l in (least_after x l (ltb-true t x e), least_more _ x l (λ g. r.0) r.1)))
       (λ e. rw e (next_of_rest x l (reduce min (later l)) (ltb-false t x e) (next_found l)))
+
+  -- The same by one smallest number: a cycle up to t counts as `past`, a number after all.
+  module _ (past : ℕ) where
+    abbrev pub lower : ℕ → ℕ → ℕ
+    lower n c = min n (cond (ltb t c) c past)
+
+    lower_later : (a : ℕ) (l : List ℕ) → a ≤ past → fold lower a l ≡ fold min a (later l)
+    lower_later a [] h = refl
+    lower_later a (x ∷ l) h =
+        by_cases (ltb t x)
+        (λ e. rw e (lower_later (min a x) l (omega (arith, h))))
+        (λ e. rw e (let s : min a past ≡ a = omega (arith, h) in rw s (lower_later a l h)))
+
+    pub lower_next :
+        (l : List ℕ) (i : ℕ) {n m after : ℕ} → i < length l → n ≡ fold lower past (take i l) → m ≡ min n after
+        → after ≡ cond (ltb t (get_or l i 0)) (get_or l i 0) past → m ≡ fold lower past (take (i + 1) l)
+    lower_next l i k e f g = rw (f, e, g) (sym (fold_more lower past l i 0 k))
+
+    pub counts_itself : {x after : ℕ} → t < x → after ≡ x → after ≡ cond (ltb t x) x past
+    counts_itself {x} h e = by_cases (ltb t x) (λ b. rw b e) (λ b. absurd (omega (arith, h, ltb-false t x b)))
+
+    pub counts_past : {x after : ℕ} → x ≤ t → after ≡ past → after ≡ cond (ltb t x) x past
+    counts_past {x} h e = by_cases (ltb t x) (λ b. absurd (omega (arith, h, ltb-true t x b))) (λ b. rw b e)
+
+    -- the smallest number of a list, `past` where no cycle is after t
+    abbrev Lowest : ℕ → Option ℕ → Type 0
+    Lowest n None = n ≡ past
+    Lowest n (Some m) = (n ≡ m) × (m < past)
+
+    lowest : (l : List ℕ) → ((i : ℕ) → i < length l → get_or l i 0 < past) → Lowest (fold lower past l) (reduce min (later l))
+    lowest [] s = refl
+    lowest (x ∷ l) s =
+        let small : x < past = s 0 (omega arith) in
+        let same : min past x ≡ x = omega (arith, small) in
+        let none : min past past ≡ past = omega arith in
+        by_cases (ltb t x)
+        (λ e. rw e (rw same (lower_later x l (omega (arith, small)), omega (arith, small, (least x l).0))))
+        (λ e. rw e (rw none (lowest l (λ i k. s (suc i) (omega arith)))))
+
+    told : {E : Type 0} (r : Result ℕ E) (n : ℕ) (o : Option ℕ) → Lowest n o → OkIff r (n < past) n → result_ok r ≡ o
+    told (Ok x) n None s k = absurd (omega (arith, s, k.0))
+    told (Ok x) n (Some m) s k = ap Some (k.1 ∙ s.0)
+    told (Err e) n None s k = refl
+    told (Err e) n (Some m) s k = absurd (k (omega (arith, s.0, s.1)))
+
+    pub first_later :
+        {E : Type 0} (l : List ℕ) → ((i : ℕ) → i < length l → get_or l i 0 < past) → (n : ℕ) → n ≡ fold lower past l
+        → (r : Result ℕ E) → OkIff r (n < past) n → result_ok r ≡ reduce min (later l)
+    first_later l s n e r k = told r n (reduce min (later l)) (rw e (lowest l s)) k

@@ -70,7 +70,9 @@ impl Linked<'_> {
     }
 }
 
-// All cycles of a plan, along chains where the tables have a place for each.
+// All cycles of a plan, along chains where the tables have a place for each. It stays a call of its own, so that its tables are on the stack only after
+// the ticket is read, which takes 10 KB itself.
+#[inline(never)]
 pub(crate) fn all_cycles(p: Progress, plan: Plan, last: Cycle, memory: &mut [u8]) -> Progress
     requires { last.0 ≡ cycles_in plan.cycles.now }
     ensures { CyclesMade plan.entry.cycles.now 0 last.0 p memory.old result memory.new }

@@ -8,6 +8,22 @@ use counting::{Cycle, Position};
 use dock::Step;
 use run_progress::Progress;
 
+// A number after all cycles, which have 16 bits.
+const AFTER_ALL: u32 = 65536;
+
+// The first of some cycles that is after t. A cycle that is not counts as one after all, so that no turn branches and the compiler takes several cycles
+// at once; with `filter` and `min` it takes one after the other.
+fn first_after(cycles: &[u16], t: Cycle) -> Option<u16>
+    ensures { result ≡ reduce min (filter (λ c. ltb t.0 c) cycles.now) }
+{
+    let mut next = AFTER_ALL;
+    for c in cycles {
+        let after = if t.0 < *c { u32::from(*c) } else { AFTER_ALL };
+        next = next.min(after);
+    }
+    u16::try_from(next).ok()
+}
+
 // A plan for as many frames as a list can have.
 #[derive(Clone, Copy)]
 pub(crate) struct Plan<'a> {
@@ -35,7 +51,7 @@ impl Plan<'_> {
     fn next_cycle(self, t: Cycle) -> Option<u16>
         ensures { result ≡ reduce min (filter (λ c. ltb t.0 c) self.entry.cycles.now) }
     {
-        self.cycles.iter().copied().filter(|c| t.0 < *c).min()
+        first_after(self.cycles, t)
     }
 
     // The same, where `next` is the first one after the cycle before t.
