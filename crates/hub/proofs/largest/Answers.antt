@@ -1,9 +1,13 @@
 -- What the check leaves to say of `largest`.
-use Rattle.std.proofs.Common.{◌∙◌}
-use Rattle.std.proofs.lemmas.Iterator.{YieldsList-from_slice}
-use Rattle.std.proofs.lemmas.Iterator.Consumers.{YieldsList-from_copied}
-use Rattle.schedule.proofs.Largest.{largest_from_max}
+use mathlib.Core.Path.{ap, ◌∙◌}
+use native.Mathlib.Omega.{arith}
+use lib.Seq.{take_all}
+use Rattle.counting.specs.Count.{largest}
+use Rattle.counting.proofs.Lists.{largest_take}
 use Rattle.hub.proofs.largest.Goals as goal
 
+pub loop-x-preserved : goal.loop-x-preserved
+loop-x-preserved c = omega (arith, c.loop-x.invariant, c.max-top.ensures, largest_take c.args.numbers.now c.loop-x.x-index c.loop-x-test.true)
+
 pub returns : goal.returns
-returns c = c.unwrap_or.ensures ∙ largest_from_max _ _ c.max.ensures.ran (YieldsList-from_copied (YieldsList-from_slice c.args.numbers.now cc))
+returns c = c.loop-x.invariant ∙ ap largest (take_all c.loop-x.x-index c.args.numbers.now c.loop-x-test.false)
