@@ -204,7 +204,7 @@ typedef struct {
  * DOCKPLAN_MAX_FRAMES places are always enough. */
 dockplan_hub_answer dockplan_hub(const uint8_t *patterns, size_t cameras, const uint8_t *list, size_t frames,
                                  uint8_t *cards, size_t places);
-#define DOCKPLAN_STACK_HUB 192
+#define DOCKPLAN_STACK_HUB 168
 
 /* ---- Plans that anyone made ---------------------------------------------------------------------------------- */
 
@@ -251,7 +251,7 @@ typedef struct {
  * list order, then the end of the cycle. A step against the rules breaks the run off. The ticket's mode is not looked
  * at. Refusals 1 to 9 and 17, then 11 where `places` is not L. */
 dockplan_run_answer dockplan_run_plan(const uint8_t *ticket, size_t bytes, const uint16_t *plan, size_t places);
-#define DOCKPLAN_STACK_RUN_PLAN 27392
+#define DOCKPLAN_STACK_RUN_PLAN 21056
 
 /* ---- The saver: frames saved as they come -------------------------------------------------------------------- */
 
