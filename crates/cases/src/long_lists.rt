@@ -34,8 +34,8 @@ impl Layout {
             Layout::OneCard => line(0)[i % 3],
             Layout::RoundRobin => line(i / 3 % 32)[i % 3],
             Layout::Blocks => line(i / 384 % 32)[i % 3],
-            Layout::First => timed_line(timed % 32, 3 * timed)[i % 11],
-            Layout::Second => timed_line(31 - timed % 32, 2 * timed)[i % 11],
+            Layout::First => timed_byte(i % 11, timed % 32, 3 * timed),
+            Layout::Second => timed_byte(i % 11, 31 - timed % 32, 2 * timed),
         }
     }
 }
@@ -50,22 +50,18 @@ pub(crate) fn line(card: usize) -> [u8; 3] {
     [digit(card / 16), digit(card), b'\n']
 }
 
-// A line of edition 02, with a second below 65,536.
-fn timed_line(card: usize, second: usize) -> [u8; 11] {
-    let [high, low, end] = line(card);
-    [
-        high,
-        low,
-        b'0',
-        b'0',
-        b'0',
-        b'0',
-        digit(second / 4096),
-        digit(second / 256),
-        digit(second / 16),
-        digit(second),
-        end,
-    ]
+// Byte i of a line of edition 02, with a second below 65,536. Each is made alone: a whole line for each of its bytes took most of a run.
+fn timed_byte(i: usize, card: usize, second: usize) -> u8 {
+    match i {
+        0 => digit(card / 16),
+        1 => digit(card),
+        2..=5 => b'0',
+        6 => digit(second / 4096),
+        7 => digit(second / 256),
+        8 => digit(second / 16),
+        9 => digit(second),
+        _ => b'\n',
+    }
 }
 
 // A text that begins with a header; its byte at place i past that is `byte(i)`.

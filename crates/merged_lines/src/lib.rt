@@ -95,12 +95,14 @@ pub fn put_merged(a: &[u8], n: usize, b: &[u8], m: usize, out: &mut [u8], at: us
 {
     let mut first = Side::begin(a, n);
     let mut second = Side::begin(b, m);
+    // counted by its offset, so that no turn multiplies
+    let mut place = at;
     for line in 0..n + m {
-        let place = at + BYTES * line;
         if first.key <= second.key {
             first.put_next(out, place);
         } else {
             second.put_next(out, place);
         }
+        place += BYTES;
     }
 }

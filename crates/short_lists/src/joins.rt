@@ -135,7 +135,7 @@ fn wanted(pair: &Pair) -> Joined {
     }
 }
 
-// T of a joined ticket, which is accepted, and not below T of either ticket.
+// T of a joined ticket: all three are accepted, and it is not below T of either ticket.
 fn compare_cycles<P: Print>(
     report: &mut Report<'_, P>,
     first: &[u8],
@@ -143,7 +143,9 @@ fn compare_cycles<P: Print>(
     joined: &[u8],
 ) -> io::Result<()> {
     let t = cycles(joined);
-    let not_fewer = t.is_some() && cycles(first) <= t && cycles(second) <= t;
+    let (a, b) = (cycles(first), cycles(second));
+    // A ticket that is refused has no T, and None would be below every T.
+    let not_fewer = a.is_some() && a <= t && b.is_some() && b <= t;
     report.compare(Topic::JoinedCycles, t, true, not_fewer)
 }
 
