@@ -61,6 +61,7 @@ fn links_lead_to_files() {
         "docs/DECISIONS.md",
         "docs/DESIGN-PASS.md",
         "docs/FORMAT.md",
+        "docs/LOOK-BACK.md",
         "docs/PORT.md",
         "docs/PROMISES.md",
         "docs/SPEED.md",
